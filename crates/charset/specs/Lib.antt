@@ -1,0 +1,4 @@
+pub mod Strings
+pub mod Meaning
+pub mod Answers
+pub mod Decoding

@@ -1,0 +1,6 @@
+use Rattle.sets.specs.Iso6937Table.{supplementary}
+use Rattle.sets.proofs.iso6937.table.supplementary_character.Needs as need
+
+pub returns : need.returns
+unfolding supplementary
+returns c = c .character-at .ensures

@@ -1,0 +1,31 @@
+// The upper half of a code table: columns 10 to 15 with sixteen rows each, so bytes A0 to FF, and the code point at each
+// position, or 0 where no character stands.
+ghost use mathlib.Core.Path.{_≡_};
+ghost use Rattle.sets.specs.Columns.{character-at, byte-of};
+
+pub fn character_at(columns: &[[u32; 16]; 6], byte: u8) -> Option<u32>
+    ensures { λ r. ⌜ r ≡ character-at (now (columns .entry)) byte ⌝ }
+{
+    if byte < 0xA0 {
+        return None;
+    }
+    let position = (byte - 0xA0) as usize;
+    let character = columns[position / 16][position % 16];
+    if character == 0 {
+        None
+    } else {
+        Some(character)
+    }
+}
+
+// The first byte that stands for the character.
+pub fn byte_of(columns: &[[u32; 16]; 6], character: u32) -> Option<u8>
+    ensures { λ r. ⌜ r ≡ byte-of (now (columns .entry)) character ⌝ }
+{
+    for byte in 0xA0..=0xFFu8 {
+        if character_at(columns, byte) == Some(character) {
+            return Some(byte);
+        }
+    }
+    None
+}
