@@ -28,7 +28,7 @@ use Rattle.sets.proofs.TableFour.{Supplementary, Accented, supplementary-at, s
 pub record Single (b c : ℕ) : Type 0 where
   pub byte : b < 256
   pub coded : iso6937-string c ≡ Some (b ∷ [])
-  pub small : c ≤ 0x10ffff
+  pub low : c < 0xd800
 
 upper-single : (b c : ℕ) → Supplementary b c → single b ≡ Some c
 upper-single b c h =
@@ -43,8 +43,8 @@ single-at b c e = go (primary b) refl e
         let same : b ≡ c = some-same f in
         let parts = and-parts (leb 0x20 b) (ltb b 0x7f) h in
         let below = ltb-true b 0x7f (parts .1) in
-        record { byte = omega arith; coded = rw (← same, h) refl; small = omega arith }
-    go false h f = let s = supplementary-at b c f in record { byte = s .byte; coded = s .coded; small = s .small }
+        record { byte = omega arith; coded = rw (← same, h) refl; low = omega arith }
+    go false h f = let s = supplementary-at b c f in record { byte = s .byte; coded = s .coded; low = s .low }
 
 written : (c : ℕ) (s : List ℕ) → iso6937-string c ≡ Some s → iso6937-character s ≡ Some c
 written c s e = in-primary (primary c) refl e
@@ -79,11 +79,12 @@ bytes (b ∷ []) c e = (single-at b c e .byte, tt)
 bytes (m ∷ l ∷ []) c e = let h = accented-at m l c e in (h .mark-byte, (h .letter-byte, tt))
 bytes (a ∷ b ∷ d ∷ s) c e = absurd (no-none e)
 
-characters : (s : List ℕ) (c : ℕ) → iso6937-character s ≡ Some c → c ≤ 0x10ffff
-characters [] c e = absurd (no-none e)
-characters (b ∷ []) c e = single-at b c e .small
-characters (m ∷ l ∷ []) c e = accented-at m l c e .small
-characters (a ∷ b ∷ d ∷ s) c e = absurd (no-none e)
+-- no character of the repertoire is a surrogate or lies beyond
+pub low-character : (s : List ℕ) (c : ℕ) → iso6937-character s ≡ Some c → c < 0xd800
+low-character [] c e = absurd (no-none e)
+low-character (b ∷ []) c e = single-at b c e .low
+low-character (m ∷ l ∷ []) c e = accented-at m l c e .low
+low-character (a ∷ b ∷ d ∷ s) c e = absurd (no-none e)
 
 opening-sized : (s : List ℕ) → iso6937-openings s ≡ true → length s ≤ 3
 opening-sized [] e = omega arith
@@ -155,7 +156,7 @@ iso6937-laws = record {
   read = read;
   sized = sized;
   bytes = bytes;
-  characters = characters;
+  characters = λ s c e. omega (arith, low-character s c e);
   empty-opens = refl;
   opening-sized = opening-sized;
   opening-bytes = opening-bytes;

@@ -10,7 +10,7 @@ use lib.ListN.{length, getD}
 use mathlib.Core.Logic.{_⊎_, inl, inr}
 use Rattle.std.proofs.shelf.Lists.{getD-past}
 use Rattle.std.proofs.shelf.Ways.{tells}
-use Rattle.std.proofs.shelf.Tests.{and-parts, eqb-true, ltb-true, leb-true, cases-lt}
+use Rattle.std.proofs.shelf.Tests.{and-parts, eqb-true, ltb-true, cases-lt}
 use Rattle.std.specs.declared.option.Option.{Option}
 use Rattle.std.specs.declared.option.Option.the-variants.{Some, None}
 use Rattle.sets.specs.Search.{when, or-else, first-in, first-from}
@@ -23,7 +23,7 @@ use Rattle.sets.proofs.Tables.{no-none, no-true, some-same, when-some, every, 
 -- a character of the supplementary set is coded by its byte
 abbrev coded-by : ℕ → Option ℕ → Bool
 coded-by b None = true
-coded-by b (Some c) = is-string (b ∷ []) (iso6937-string c) && leb c 0x10ffff
+coded-by b (Some c) = is-string (b ∷ []) (iso6937-string c) && ltb c 0xd800
 
 supplementary-test : ℕ → Bool
 supplementary-test b = coded-by b (character-at supplementary b)
@@ -34,7 +34,7 @@ supplementary-tested = refl
 
 -- the character of a pair is coded by the pair, and codes no other
 abbrev letter-test : ℕ → ℕ × ℕ → Bool
-letter-test mark p = (is-string (mark ∷ p .0 ∷ []) (iso6937-string (p .1)) && is-character (p .1) (pair mark (p .0))) && (ltb (p .0) 256 && leb (p .1) 0x10ffff)
+letter-test mark p = (is-string (mark ∷ p .0 ∷ []) (iso6937-string (p .1)) && is-character (p .1) (pair mark (p .0))) && (ltb (p .0) 256 && ltb (p .1) 0xd800)
 
 diacritic-test : ℕ × List (ℕ × ℕ) → Bool
 diacritic-test d = (ltb (d .0) 256 && not (isSome (single (d .0)))) && every (letter-test (d .0)) (d .1)
@@ -57,7 +57,7 @@ pub record Supplementary (b c : ℕ) : Type 0 where
   pub byte : b < 256
   pub stands : character-at supplementary b ≡ Some c
   pub coded : iso6937-string c ≡ Some (b ∷ [])
-  pub small : c ≤ 0x10ffff
+  pub low : c < 0xd800
 
 -- a diacritic and a letter, and the character that they code
 pub record Accented (mark letter c : ℕ) : Type 0 where
@@ -65,7 +65,7 @@ pub record Accented (mark letter c : ℕ) : Type 0 where
   pub letter-byte : letter < 256
   pub stands : pair mark letter ≡ Some c
   pub coded : iso6937-string c ≡ Some (mark ∷ letter ∷ [])
-  pub small : c ≤ 0x10ffff
+  pub low : c < 0xd800
 
 accented-same : {m n l k c d : ℕ} → m ≡ n → l ≡ k → c ≡ d → Accented m l c → Accented n k d
 accented-same e f g h = subst₃ Accented e f g h
@@ -74,8 +74,8 @@ supplementary-entry : (b c : ℕ) → 0xa0 ≤ b → b < 256 → character-at su
 unfolding supplementary-test
 supplementary-entry b c h k e =
     let t : coded-by b (Some c) ≡ true = rw e at (every-at supplementary-test 0xa0 96 b supplementary-tested h k) in
-    let both = and-parts (is-string (b ∷ []) (iso6937-string c)) (leb c 0x10ffff) t in
-    record { upper = h; byte = k; stands = e; coded = is-string-true (b ∷ []) (iso6937-string c) (both .0); small = leb-true c 0x10ffff (both .1) }
+    let both = and-parts (is-string (b ∷ []) (iso6937-string c)) (ltb c 0xd800) t in
+    record { upper = h; byte = k; stands = e; coded = is-string-true (b ∷ []) (iso6937-string c) (both .0); low = ltb-true c 0xd800 (both .1) }
 
 six : length supplementary ≡ 6
 unfolding supplementary
@@ -110,15 +110,15 @@ unfolding diacritic-test
 accented-entry d p t u =
     let a = and-parts (ltb (d .0) 256 && not (isSome (single (d .0)))) (every (letter-test (d .0)) (d .1)) t in
     let b = and-parts (ltb (d .0) 256) (not (isSome (single (d .0)))) (a .0) in
-    let e = and-parts (is-string (d .0 ∷ p .0 ∷ []) (iso6937-string (p .1)) && is-character (p .1) (pair (d .0) (p .0))) (ltb (p .0) 256 && leb (p .1) 0x10ffff) u in
+    let e = and-parts (is-string (d .0 ∷ p .0 ∷ []) (iso6937-string (p .1)) && is-character (p .1) (pair (d .0) (p .0))) (ltb (p .0) 256 && ltb (p .1) 0xd800) u in
     let f = and-parts (is-string (d .0 ∷ p .0 ∷ []) (iso6937-string (p .1))) (is-character (p .1) (pair (d .0) (p .0))) (e .0) in
-    let g = and-parts (ltb (p .0) 256) (leb (p .1) 0x10ffff) (e .1) in
+    let g = and-parts (ltb (p .0) 256) (ltb (p .1) 0xd800) (e .1) in
     record {
       mark-byte = ltb-true (d .0) 256 (b .0);
       letter-byte = ltb-true (p .0) 256 (g .0);
       stands = is-this (p .1) (pair (d .0) (p .0)) (f .1);
       coded = is-string-true (d .0 ∷ p .0 ∷ []) (iso6937-string (p .1)) (f .0);
-      small = leb-true (p .1) 0x10ffff (g .1);
+      low = ltb-true (p .1) 0xd800 (g .1);
     }
 
 letters-pass : (d : ℕ × List (ℕ × ℕ)) → diacritic-test d ≡ true → every (letter-test (d .0)) (d .1) ≡ true

@@ -66,6 +66,16 @@ string-past c h =
     let apart : surrogate c ≡ false = grind (arith, tells) in
     rw (le-ltb c 0x80 (omega arith), le-ltb c 0x800 (omega arith), apart, le-ltb c 0x10000 (omega arith), le-ltb c 0x110000 h) refl
 
+-- every number below the surrogates has a coding
+pub low-written : (c : ℕ) → c < 0xd800 → (s : List ℕ) × (utf8-string c ≡ Some s)
+low-written c h = elim (cases-lt c 0x80) [
+  inl k ↦ (_, string-one c k) |
+  inr k ↦ elim (cases-lt c 0x800) [
+    inl l ↦ (_, string-two c k l) |
+    inr l ↦ (_, string-three c l (grind (arith, tells)) (omega arith))
+  ]
+]
+
 written : (c : ℕ) (s : List ℕ) → utf8-string c ≡ Some s → utf8-character s ≡ Some c
 written c s e = elim (cases-lt c 0x80) [
   | inl h ↦ by (string-one c h) (rw (lt-ltb c 0x80 h) refl)

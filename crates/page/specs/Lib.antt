@@ -1,0 +1,4 @@
+pub mod Stops
+pub mod Transcribed
+pub mod Examples
+pub mod Report
