@@ -59,7 +59,7 @@ module _ (S T : Meaning) (l : Laws S) where
 
   -- behind the characters of a page that has ended none is written
   no-further : (es e cs ds text rest rest′ : List ℕ) (stop : Option Stop) → ds ≡ cs ++ es → Spells S es e → rest ≡ e ++ rest′ → Ends S T rest stop → Spells T ds text
-    → (cs ≡ ds) × (rest ≡ rest′)
+      → (cs ≡ ds) × (rest ≡ rest′)
   no-further [] e cs ds text rest rest′ stop g p f h k = (sym (g ∙ append-nil cs), f ∙ ap (λ t. t ++ rest′) p)
   no-further (c ∷ es) e cs ds text rest rest′ stop g p f h k =
       let v = spells-split T cs (c ∷ es) text (rw (← g) k) .3 in
@@ -70,18 +70,19 @@ module _ (S T : Meaning) (l : Laws S) where
     same-front : (p .chars ≡ q .chars) × (drop i bytes ≡ drop j bytes)
     same-front =
         elim (fronts l (p .chars) (q .chars) (take i bytes) (take j bytes) (drop i bytes) (drop j bytes) (p .from) (q .from) (take-append-drop i bytes ∙ sym (take-append-drop j bytes))) [
-          inl g ↦ no-further (g .0) (g .1) (p .chars) (q .chars) u (drop i bytes) (drop j bytes) j-stop (g .2) (g .3) (g .4) (p .ends) (q .into) |
-          inr g ↦ let h = no-further (g .0) (g .1) (q .chars) (p .chars) t (drop j bytes) (drop i bytes) k-stop (g .2) (g .3) (g .4) (q .ends) (p .into) in (sym (h .0), sym (h .1))
+          | inl g ↦ no-further (g .0) (g .1) (p .chars) (q .chars) u (drop i bytes) (drop j bytes) j-stop (g .2) (g .3) (g .4) (p .ends) (q .into)
+          | inr g ↦ let h = no-further (g .0) (g .1) (q .chars) (p .chars) t (drop j bytes) (drop i bytes) k-stop (g .2) (g .3) (g .4) (q .ends) (p .into) in (sym (h .0), sym (h .1))
         ]
 
     one-transcript : (t ≡ u) × (n ≡ m) × (i ≡ j) × (j-stop ≡ k-stop)
     one-transcript =
         let same = same-front in
-        let taken : take i bytes ≡ take j bytes = spells-one S (q .chars) (take i bytes) (take j bytes) (rw (← same .0) (p .from)) (q .from) in
-        (spells-one T (q .chars) t u (rw (← same .0) (p .into)) (q .into),
+        let taken : take i bytes ≡ take j bytes = spells-one S (q .chars) (take i bytes) (take j bytes) (rw (← same .0) (p .from)) (q .from) in (
+          spells-one T (q .chars) t u (rw (← same .0) (p .into)) (q .into),
           p .counted ∙ ap length (same .0) ∙ sym (q .counted),
           sym (length-take-le i bytes (p .inside)) ∙ ap length taken ∙ length-take-le j bytes (q .inside),
-          ends-same (sym (ends-next (drop i bytes) j-stop (p .ends)) ∙ rw (same .1) (ends-next (drop j bytes) k-stop (q .ends))))
+          ends-same (sym (ends-next (drop i bytes) j-stop (p .ends)) ∙ rw (same .1) (ends-next (drop j bytes) k-stop (q .ends))),
+        )
 
   pub the-transcript : {bytes text : List ℕ} {count offset : ℕ} {stop : Option Stop} → Transcribed S T bytes text count offset stop → The-transcript S T bytes text count offset stop
   the-transcript h = record { transcribed = h; only = λ t n o s k. one-transcript k h }

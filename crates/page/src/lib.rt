@@ -14,8 +14,6 @@ ghost use Rattle.page.specs.Transcribed.{The-transcript};
 use charset::CharacterSet;
 use charset::Reading;
 use charset::SetRefusal;
-use charset::SetRefusalDebug;
-use charset::SetRefusalPartialEq;
 use charset::read_front;
 use sets::Iso6937;
 use sets::Iso6937Set;
@@ -25,7 +23,7 @@ use std::alloc::AllocError;
 use std::alloc::Global;
 
 // Why a page is not read to its end.
-#[derive(Clone, Copy, PartialEq, Eq, Debug)]
+#[derive(Clone, Copy)]
 pub enum Stop {
     // No coding stands in front, and what is left is no opening.
     Unread(SetRefusal),
@@ -74,7 +72,12 @@ impl Page {
     }
 }
 
-pub fn transcribe<S: CharacterSet, T: CharacterSet>(heap: Global, source: &S, target: &T, bytes: &[u8]) -> Result<Page, AllocError>
+pub fn transcribe<S: CharacterSet, T: CharacterSet>(
+    heap: Global,
+    source: &S,
+    target: &T,
+    bytes: &[u8],
+) -> Result<Page, AllocError>
     ensures { λ r. ⌜ made r (λ p. The-transcript (meaning (S·CharacterSet .codings (now (source .entry))) (S·CharacterSet .openings (now (source .entry))) (S·CharacterSet .causes (now (source .entry)))) (meaning (T·CharacterSet .codings (now (target .entry))) (T·CharacterSet .openings (now (target .entry))) (T·CharacterSet .causes (now (target .entry)))) (now (bytes .entry)) (vec-items (p .text)) (p .characters) (p .offset) (p .stop)) ⌝ }
 {
     let mut text = Vec::new(heap);
@@ -90,16 +93,35 @@ pub fn transcribe<S: CharacterSet, T: CharacterSet>(heap: Global, source: &S, ta
                         offset += length;
                     }
                     None => {
-                        return Ok(Page { text, characters, offset, stop: Some(Stop::Unwritten(character)) });
+                        return Ok(Page {
+                            text,
+                            characters,
+                            offset,
+                            stop: Some(Stop::Unwritten(character)),
+                        });
                     }
                 },
                 Reading::Open => {
-                    let stop = if offset < bytes.len() { Some(Stop::Unfinished) } else { None };
-                    return Ok(Page { text, characters, offset, stop });
+                    let stop = if offset < bytes.len() {
+                        Some(Stop::Unfinished)
+                    } else {
+                        None
+                    };
+                    return Ok(Page {
+                        text,
+                        characters,
+                        offset,
+                        stop,
+                    });
                 }
             },
             Err(refusal) => {
-                return Ok(Page { text, characters, offset, stop: Some(Stop::Unread(refusal)) });
+                return Ok(Page {
+                    text,
+                    characters,
+                    offset,
+                    stop: Some(Stop::Unread(refusal)),
+                });
             }
         }
     }
@@ -114,12 +136,15 @@ pub fn to_utf8(heap: Global, bytes: &[u8]) -> Result<Page, AllocError>
     transcribe(heap, &Iso6937, &Utf8, bytes)
 }
 
+// How many bytes a page may have.
+const LONGEST_PAGE: usize = 65_536;
+
 // What the program writes of an input: the text of the page and a line on how it went, or 14 where the input is too long
 // for a page.
 pub fn report(heap: Global, input: &[u8]) -> Result<Vec<u8>, AllocError>
     ensures { λ r. ⌜ made r (λ out. Reports (now (input .entry)) (vec-items out)) ⌝ }
 {
-    if input.len() > 65_536 {
+    if input.len() > LONGEST_PAGE {
         return b"14\n".to_vec(heap);
     }
     let page = to_utf8(heap, input)?;

@@ -69,10 +69,10 @@ string-past c h =
 -- every number below the surrogates has a coding
 pub low-written : (c : ℕ) → c < 0xd800 → (s : List ℕ) × (utf8-string c ≡ Some s)
 low-written c h = elim (cases-lt c 0x80) [
-  inl k ↦ (_, string-one c k) |
-  inr k ↦ elim (cases-lt c 0x800) [
-    inl l ↦ (_, string-two c k l) |
-    inr l ↦ (_, string-three c l (grind (arith, tells)) (omega arith))
+  | inl k ↦ (_, string-one c k)
+  | inr k ↦ elim (cases-lt c 0x800) [
+    | inl l ↦ (_, string-two c k l)
+    | inr l ↦ (_, string-three c l (grind (arith, tells)) (omega arith))
   ]
 ]
 

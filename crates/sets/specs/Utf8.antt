@@ -15,7 +15,10 @@ use Rattle.sets.specs.Search.{when}
 abbrev pub within : ℕ → ℕ → ℕ → Bool
 within low high n = leb low n && leb n high
 
--- the octets of section 4: a tail, and the second octet after each first one
+-- the octets of section 4: the first of two to four, the second after each first one, and a tail
+abbrev pub lead : ℕ → Bool
+lead = within 0xc2 0xf4
+
 abbrev pub tail : ℕ → Bool
 tail = within 0x80 0xbf
 
@@ -64,7 +67,7 @@ utf8-string c =
 -- the proper beginnings of codings, as `Openings-begin-codings` and the laws say
 abbrev pub utf8-openings : List ℕ → Bool
 utf8-openings [] = true
-utf8-openings (a ∷ []) = within 0xc2 0xf4 a
+utf8-openings (a ∷ []) = lead a
 utf8-openings (a ∷ b ∷ []) = within 0xe0 0xf4 a && second a b
 utf8-openings (a ∷ b ∷ c ∷ []) = within 0xf0 0xf4 a && (second a b && tail c)
 utf8-openings (a ∷ b ∷ c ∷ d ∷ s) = false

@@ -22,7 +22,8 @@ pub fn character_at(columns: &[[u32; 16]; 6], byte: u8) -> Option<u32>
 pub fn byte_of(columns: &[[u32; 16]; 6], character: u32) -> Option<u8>
     ensures { λ r. ⌜ r ≡ byte-of (now (columns .entry)) character ⌝ }
 {
-    for byte in 0xA0..=0xFFu8 {
+    for position in 0..96u8 {
+        let byte = 0xA0 + position;
         if character_at(columns, byte) == Some(character) {
             return Some(byte);
         }

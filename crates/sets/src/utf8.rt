@@ -1,7 +1,7 @@
 // UTF-8, by RFC 3629.
 ghost use mathlib.Core.Path.{_≡_};
 ghost use Rattle.charset.specs.Answers.{Reads};
-ghost use Rattle.sets.specs.Utf8.{utf8, Openings-begin-codings, utf8-codings, utf8-openings, utf8-causes, second, tail, low-bits};
+ghost use Rattle.sets.specs.Utf8.{utf8, Openings-begin-codings, utf8-codings, utf8-openings, utf8-causes, lead, second, tail, low-bits};
 use crate::cause::Cause;
 use crate::cause::CauseRefusal;
 use charset::CharacterSet;
@@ -11,6 +11,13 @@ use charset::SetRefusal;
 
 #[derive(Clone, Copy)]
 pub struct Utf8;
+
+// Whether a is the first octet of a character of two to four octets.
+fn is_lead(a: u8) -> bool
+    ensures { λ r. ⌜ r ≡ lead a ⌝ }
+{
+    0xC2 <= a && a <= 0xF4
+}
 
 // Whether b may follow the first octet a.
 fn is_second(a: u8, b: u8) -> bool
@@ -48,7 +55,7 @@ fn front(bytes: &[u8]) -> Result<Reading, SetRefusal>
             length: 1,
         });
     }
-    if *a < 0xC2 || *a > 0xF4 {
+    if !is_lead(*a) {
         return Err(Cause::Malformed.into());
     }
     let [_, b, ..] = bytes else {

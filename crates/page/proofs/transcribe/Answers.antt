@@ -29,8 +29,8 @@ returns-in-Open g c =
     let l = g .S·CharacterSet·met .lawful (c .args .source .now) in
     let r = read-as _ (c .args .bytes .now) (c .page .offset) _ _ (c .in-Open .is) (c .in-Ok .ensures tt) in
     elim (c .if-offset-bytes .came) [
-      then-offset-bytes w ↦ rw (w .stop-is) (far-ends _ _ l _ _ _ _ (c .page .inv) _ (ends-open _ _ l _ _ _ _ (c .page .inv) r (w .if-offset-bytes .taken))) |
-      else-offset-bytes w ↦ rw (w .stop-is) (far-ends _ _ l _ _ _ _ (c .page .inv) _ (ends-whole _ _ l _ _ _ _ (c .page .inv) (w .if-offset-bytes .left)))
+      | then-offset-bytes w ↦ rw (w .stop-is) (far-ends _ _ l _ _ _ _ (c .page .inv) _ (ends-open _ _ l _ _ _ _ (c .page .inv) r (w .if-offset-bytes .taken)))
+      | else-offset-bytes w ↦ rw (w .stop-is) (far-ends _ _ l _ _ _ _ (c .page .inv) _ (ends-whole _ _ l _ _ _ _ (c .page .inv) (w .if-offset-bytes .left)))
     ]
 
 pub returns-in-Err : need.returns-in-Err

@@ -13,7 +13,7 @@ use Rattle.page.specs.Report.{line-of}
 use Rattle.page.proofs.Page.line.Needs as need
 
 line-at : (P : List ℕ → Type 0) (characters offset number : ℕ) (stop : Option Stop) (s : Stop) → stop ≡ Some s → number ≡ number-of s
-  → P (decimal characters ++ (codes " " ++ (decimal number ++ (codes "@" ++ decimal offset)))) → P (line-of characters offset stop)
+    → P (decimal characters ++ (codes " " ++ (decimal number ++ (codes "@" ++ decimal offset)))) → P (line-of characters offset stop)
 line-at P characters offset number stop s e f h = rw (e, ← f) h
 
 pub returns-in-Some : need.returns-in-Some

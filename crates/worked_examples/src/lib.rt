@@ -1,0 +1,5 @@
+// Worked examples, as tests.
+#[cfg(test)]
+mod pages;
+#[cfg(test)]
+mod sets;
