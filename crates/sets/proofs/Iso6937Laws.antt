@@ -18,48 +18,22 @@ use Rattle.charset.proofs.Front.{alone}
 use Rattle.sets.specs.declared.cause.Cause.the-variants.{NotInUse, NoPair}
 use Rattle.sets.specs.Causes.{refusal}
 use Rattle.sets.specs.Search.{or-else}
-use Rattle.sets.specs.Columns.{character-at, byte-of}
+use Rattle.sets.specs.Columns.{byte-of}
 use Rattle.sets.specs.Iso6937Table.{supplementary}
-use Rattle.sets.specs.Iso6937.{primary, single, letters-of, among, pair, pair-of, iso6937-character, iso6937-string, iso6937-openings, iso6937-causes, iso6937}
+use Rattle.sets.specs.Iso6937.{single, letters-of, among, pair, pair-of, iso6937-character, iso6937-string, iso6937-openings, iso6937-causes, iso6937}
 use Rattle.sets.proofs.Tables.{no-none, no-true, some-same}
-use Rattle.sets.proofs.TableFour.{Supplementary, Accented, supplementary-at, supplementary-of, accented-at, accented-of, mark-alone}
-
--- a byte that codes a character alone
-pub record Single (b c : ℕ) : Type 0 where
-  pub byte : b < 256
-  pub coded : iso6937-string c ≡ Some (b ∷ [])
-  pub low : c < 0xd800
-
-upper-single : (b c : ℕ) → Supplementary b c → single b ≡ Some c
-upper-single b c h =
-    let other : primary b ≡ false = grind (arith, tells, h .upper) in
-    rw other (h .stands)
-
-pub single-at : (b c : ℕ) → single b ≡ Some c → Single b c
-single-at b c e = go (primary b) refl e
-  where
-    go : (t : Bool) → primary b ≡ t → cond t (Some b) (character-at supplementary b) ≡ Some c → Single b c
-    go true h f =
-        let same : b ≡ c = some-same f in
-        let parts = and-parts (leb 0x20 b) (ltb b 0x7f) h in
-        let below = ltb-true b 0x7f (parts .1) in
-        record { byte = omega arith; coded = rw (← same, h) refl; low = omega arith }
-    go false h f = let s = supplementary-at b c f in record { byte = s .byte; coded = s .coded; low = s .low }
+use Rattle.sets.proofs.CodeTable.{standing}
+use Rattle.sets.proofs.TableFour.{single-at, accented-at, accented-of, mark-alone}
 
 written : (c : ℕ) (s : List ℕ) → iso6937-string c ≡ Some s → iso6937-character s ≡ Some c
-written c s e = in-primary (primary c) refl e
+written c s e = alone-or-pair (byte-of supplementary c) refl e
   where
     in-pairs : (o : Option (ℕ × ℕ)) → pair-of c ≡ o → mapped (λ p. p .0 ∷ p .1 ∷ []) o ≡ Some s → iso6937-character s ≡ Some c
     in-pairs None h f = absurd (no-none f)
     in-pairs (Some p) h f = rw (← some-same f) (accented-of (p .0) (p .1) c h .stands)
-
-    in-columns : (o : Option ℕ) → byte-of supplementary c ≡ o → or-else (mapped (λ b. b ∷ []) o) (mapped (λ p. p .0 ∷ p .1 ∷ []) (pair-of c)) ≡ Some s → iso6937-character s ≡ Some c
-    in-columns None h f = in-pairs (pair-of c) refl f
-    in-columns (Some b) h f = rw (← some-same f) (upper-single b c (supplementary-of b c h))
-
-    in-primary : (t : Bool) → primary c ≡ t → cond t (Some (c ∷ [])) (or-else (mapped (λ b. b ∷ []) (byte-of supplementary c)) (mapped (λ p. p .0 ∷ p .1 ∷ []) (pair-of c))) ≡ Some s → iso6937-character s ≡ Some c
-    in-primary true h f = rw (← some-same f, h) refl
-    in-primary false h f = in-columns (byte-of supplementary c) refl f
+    alone-or-pair : (o : Option ℕ) → byte-of supplementary c ≡ o → or-else (mapped (λ b. b ∷ []) o) (mapped (λ p. p .0 ∷ p .1 ∷ []) (pair-of c)) ≡ Some s → iso6937-character s ≡ Some c
+    alone-or-pair None h f = in-pairs (pair-of c) refl f
+    alone-or-pair (Some b) h f = rw (← some-same f) (standing supplementary b c h)
 
 read : (s : List ℕ) (c : ℕ) → iso6937-character s ≡ Some c → iso6937-string c ≡ Some s
 read [] c e = absurd (no-none e)

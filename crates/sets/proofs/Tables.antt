@@ -9,7 +9,7 @@ use lib.Dec.{eqb}
 use Rattle.std.proofs.shelf.Tests.{and-parts, cases-eq, eqb-true}
 use Rattle.std.specs.declared.option.Option.{Option}
 use Rattle.std.specs.declared.option.Option.the-variants.{Some, None}
-use Rattle.sets.specs.Search.{when, or-else, first-in}
+use Rattle.sets.specs.Search.{when, or-else, first-in, every-from}
 
 pub no-none : {A : Type 0} {x : A} → None ≡ Some x → ⊥
 no-none e = let z : _≡_ {A = ℕ} 0 1 = cc in omega arith
@@ -43,11 +43,6 @@ found-passes {A} {B} p f (x ∷ xs) y all e =
     go : (o : Option B) → f x ≡ o → or-else o (first-in f xs) ≡ Some y → p x ≡ true → (first-in f xs ≡ Some y → (z : A) × (p z ≡ true) × (f z ≡ Some y)) → (z : A) × (p z ≡ true) × (f z ≡ Some y)
     go None h g ok more = more g
     go (Some z) h g ok more = (x, ok, h ∙ g)
-
--- each of the n numbers from b on passes
-abbrev pub every-from : (ℕ → Bool) → ℕ → ℕ → Bool
-every-from p b zero = true
-every-from p b (suc n) = p b && every-from p (suc b) n
 
 pub every-at : (p : ℕ → Bool) (b n k : ℕ) → every-from p b n ≡ true → b ≤ k → k < b + n → p k ≡ true
 every-at p b zero k all h g = absurd (omega arith)

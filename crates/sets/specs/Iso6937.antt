@@ -1,8 +1,8 @@
 -- ISO/IEC 6937:1994 in its 8-bit form, by Table 4. Assumes nothing.
-use mathlib.Core.Bool.{Bool, true, false, cond, _&&_}
+use mathlib.Core.Bool.{Bool, true, false, cond}
 use mathlib.Core.List.{List, [], _∷_}
 use Prim.Native.Nat.{ℕ}
-use lib.Dec.{eqb, leb, ltb}
+use lib.Dec.{eqb}
 use Rattle.std.specs.Options.{isSome, mapped}
 use Rattle.std.specs.declared.option.Option.{Option}
 use Rattle.std.specs.declared.option.Option.the-variants.{Some, None}
@@ -14,13 +14,9 @@ use Rattle.sets.specs.Search.{when, or-else, first-in}
 use Rattle.sets.specs.Columns.{character-at, byte-of}
 use Rattle.sets.specs.Iso6937Table.{supplementary, diacritics}
 
--- 02/00 to 07/14: SPACE and the primary set, where the character's number is the byte's
-abbrev pub primary : ℕ → Bool
-primary b = leb 0x20 b && ltb b 0x7f
-
--- the character that a byte codes alone
+-- the character that a byte codes alone: SPACE and the primary set are those of ASCII
 abbrev pub single : ℕ → Option ℕ
-single b = cond (primary b) (Some b) (character-at supplementary b)
+single = character-at supplementary
 
 -- the letters of a diacritic
 abbrev pub letters-of : ℕ → Option (List (ℕ × ℕ))
@@ -57,10 +53,7 @@ iso6937-character (mark ∷ letter ∷ []) = pair mark letter
 iso6937-character (a ∷ b ∷ c ∷ s) = None
 
 abbrev pub iso6937-string : ℕ → Option (List ℕ)
-iso6937-string c =
-    cond (primary c) (Some (c ∷ []))
-    (or-else (mapped (λ b. b ∷ []) (byte-of supplementary c))
-    (mapped (λ p. p .0 ∷ p .1 ∷ []) (pair-of c)))
+iso6937-string c = or-else (mapped (λ b. b ∷ []) (byte-of supplementary c)) (mapped (λ p. p .0 ∷ p .1 ∷ []) (pair-of c))
 
 -- the empty string and the thirteen diacritics
 abbrev pub iso6937-openings : List ℕ → Bool

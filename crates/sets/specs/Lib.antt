@@ -5,3 +5,5 @@ pub mod Iso6937Table
 pub mod Iso6937
 pub mod Diacritics
 pub mod Utf8
+pub mod SingleByteTables
+pub mod SingleByte

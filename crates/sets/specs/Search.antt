@@ -1,5 +1,5 @@
 -- Searches from the front. Assumes nothing.
-use mathlib.Core.Bool.{Bool, cond}
+use mathlib.Core.Bool.{Bool, true, cond, _&&_}
 use mathlib.Core.List.{List, [], _∷_}
 use Prim.Native.Nat.{ℕ, zero, suc}
 use Rattle.std.specs.declared.option.Option.{Option}
@@ -21,3 +21,8 @@ first-in f (x ∷ xs) = or-else (f x) (first-in f xs)
 unfoldable pub first-from : (ℕ → Bool) → ℕ → ℕ → Option ℕ
 first-from p b zero = None
 first-from p b (suc n) = or-else (when (p b) b) (first-from p (suc b) n)
+
+-- each of the n numbers from b on passes a test
+abbrev pub every-from : (ℕ → Bool) → ℕ → ℕ → Bool
+every-from p b zero = true
+every-from p b (suc n) = p b && every-from p (suc b) n

@@ -1,6 +1,5 @@
 // ISO/IEC 6937:1994 in its 8-bit form: a letter's accent is a byte before it.
-ghost use mathlib.Core.Path.{_≡_};
-ghost use Rattle.sets.specs.Iso6937.{iso6937-codings, iso6937-openings, iso6937-causes, single};
+ghost use Rattle.sets.specs.Iso6937.{iso6937-codings, iso6937-openings, iso6937-causes};
 
 mod table;
 
@@ -13,22 +12,11 @@ use charset::SetRefusal;
 use table::accented;
 use table::letters_of;
 use table::pair_of;
-use table::supplementary_byte;
-use table::supplementary_character;
+use table::single;
+use table::single_byte;
 
 #[derive(Clone, Copy)]
 pub struct Iso6937;
-
-// The character that a byte codes alone.
-fn single(byte: u8) -> Option<u32>
-    ensures { λ r. ⌜ r ≡ single byte ⌝ }
-{
-    if byte >= 0x20 && byte < 0x7F {
-        Some(byte as u32)
-    } else {
-        supplementary_character(byte)
-    }
-}
 
 pub impl CharacterSet for Iso6937 as Iso6937Set {
     ghost codings = { λ _. iso6937-codings };
@@ -63,10 +51,7 @@ pub impl CharacterSet for Iso6937 as Iso6937Set {
     }
 
     fn write(&self, number: u32) -> Option<Coding> {
-        if number >= 0x20 && number < 0x7F {
-            return Some(Coding::new(number as u8));
-        }
-        if let Some(byte) = supplementary_byte(number) {
+        if let Some(byte) = single_byte(number) {
             return Some(Coding::new(byte));
         }
         let (mark, letter) = pair_of(number)?;

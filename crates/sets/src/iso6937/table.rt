@@ -1,9 +1,9 @@
 // ISO/IEC 6937:1994, Table 4: what the supplementary set codes in one byte, and the letters of each diacritic.
 ghost use mathlib.Core.Path.{_≡_};
 ghost use Rattle.std.specs.Options.{mapped};
-ghost use Rattle.sets.specs.Columns.{character-at, byte-of};
+ghost use Rattle.sets.specs.Columns.{byte-of};
 ghost use Rattle.sets.specs.Iso6937Table.{supplementary};
-ghost use Rattle.sets.specs.Iso6937.{letters-of, accented, letter-of, pair-of};
+ghost use Rattle.sets.specs.Iso6937.{single, letters-of, accented, letter-of, pair-of};
 ghost use Rattle.sets.specs.Diacritics.{letters-in, pair-in};
 use crate::columns::byte_of;
 use crate::columns::character_at;
@@ -102,15 +102,15 @@ const DIACRITICS: [Diacritic; 13] = [
     ] },
 ];
 
-// The character that a byte of the supplementary set codes alone.
-pub fn supplementary_character(byte: u8) -> Option<u32>
-    ensures { λ r. ⌜ r ≡ character-at supplementary byte ⌝ }
+// The character that a byte codes alone.
+pub fn single(byte: u8) -> Option<u32>
+    ensures { λ r. ⌜ r ≡ single byte ⌝ }
 {
     character_at(&SUPPLEMENTARY, byte)
 }
 
-// The byte that codes a character of the supplementary set alone.
-pub fn supplementary_byte(character: u32) -> Option<u8>
+// The byte that codes a character alone.
+pub fn single_byte(character: u32) -> Option<u8>
     ensures { λ r. ⌜ r ≡ byte-of supplementary character ⌝ }
 {
     byte_of(&SUPPLEMENTARY, character)

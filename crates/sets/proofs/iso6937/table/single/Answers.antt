@@ -1,5 +1,5 @@
 use Rattle.sets.specs.Iso6937Table.{supplementary}
-use Rattle.sets.proofs.iso6937.table.supplementary_character.Needs as need
+use Rattle.sets.proofs.iso6937.table.single.Needs as need
 
 pub returns : need.returns
 unfolding supplementary

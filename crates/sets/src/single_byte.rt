@@ -1,0 +1,83 @@
+// The single-byte sets: ASCII in the lower half, and a table of their own in the upper.
+ghost use mathlib.Core.Bool.{true};
+ghost use mathlib.Core.Path.{_≡_};
+ghost use Rattle.sets.specs.Columns.{one-to-one};
+ghost use Rattle.sets.specs.SingleByte.{single-byte-codings, single-byte-openings, single-byte-causes};
+ghost use Rattle.sets.specs.SingleByteTables.{iso8859-16, sami};
+use crate::cause::Cause;
+use crate::cause::CauseRefusal;
+use crate::columns::byte_of;
+use crate::columns::character_at;
+use charset::CharacterSet;
+use charset::Coding;
+use charset::Reading;
+use charset::SetRefusal;
+
+// Columns 10 to 15, rows 0 to 15 of ISO/IEC 8859-16:2001, Table 1.
+#[rattlefmt::skip]
+const ISO_8859_16_COLUMNS: [[u32; 16]; 6] = [
+    [0x00A0, 0x0104, 0x0105, 0x0141, 0x20AC, 0x201E, 0x0160, 0x00A7, 0x0161, 0x00A9, 0x0218, 0x00AB, 0x0179, 0x00AD, 0x017A, 0x017B],
+    [0x00B0, 0x00B1, 0x010C, 0x0142, 0x017D, 0x201D, 0x00B6, 0x00B7, 0x017E, 0x010D, 0x0219, 0x00BB, 0x0152, 0x0153, 0x0178, 0x017C],
+    [0x00C0, 0x00C1, 0x00C2, 0x0102, 0x00C4, 0x0106, 0x00C6, 0x00C7, 0x00C8, 0x00C9, 0x00CA, 0x00CB, 0x00CC, 0x00CD, 0x00CE, 0x00CF],
+    [0x0110, 0x0143, 0x00D2, 0x00D3, 0x00D4, 0x0150, 0x00D6, 0x015A, 0x0170, 0x00D9, 0x00DA, 0x00DB, 0x00DC, 0x0118, 0x021A, 0x00DF],
+    [0x00E0, 0x00E1, 0x00E2, 0x0103, 0x00E4, 0x0107, 0x00E6, 0x00E7, 0x00E8, 0x00E9, 0x00EA, 0x00EB, 0x00EC, 0x00ED, 0x00EE, 0x00EF],
+    [0x0111, 0x0144, 0x00F2, 0x00F3, 0x00F4, 0x0151, 0x00F6, 0x015B, 0x0171, 0x00F9, 0x00FA, 0x00FB, 0x00FC, 0x0119, 0x021B, 0x00FF],
+];
+
+// Columns 10 to 15, rows 0 to 15 of the Sami set for ISO/IEC 8859 environments, ISO-IR 209.
+#[rattlefmt::skip]
+const SAMI_COLUMNS: [[u32; 16]; 6] = [
+    [0x00A0, 0x010C, 0x010D, 0x0110, 0x0111, 0x01E4, 0x01E5, 0x00A7, 0x01E6, 0x00A9, 0x01E7, 0x021E, 0x01E8, 0x00AD, 0x01E9, 0x014A],
+    [0x00B0, 0x014B, 0x0160, 0x0161, 0x00B4, 0x0166, 0x00B6, 0x00B7, 0x0167, 0x017D, 0x017E, 0x021F, 0x01B7, 0x0292, 0x01EE, 0x01EF],
+    [0x00C0, 0x00C1, 0x00C2, 0x00C3, 0x00C4, 0x00C5, 0x00C6, 0x00C7, 0x00C8, 0x00C9, 0x00CA, 0x00CB, 0x00CC, 0x00CD, 0x00CE, 0x00CF],
+    [0x00D0, 0x00D1, 0x00D2, 0x00D3, 0x00D4, 0x00D5, 0x00D6, 0x00D7, 0x00D8, 0x00D9, 0x00DA, 0x00DB, 0x00DC, 0x00DD, 0x00DE, 0x00DF],
+    [0x00E0, 0x00E1, 0x00E2, 0x00E3, 0x00E4, 0x00E5, 0x00E6, 0x00E7, 0x00E8, 0x00E9, 0x00EA, 0x00EB, 0x00EC, 0x00ED, 0x00EE, 0x00EF],
+    [0x00F0, 0x00F1, 0x00F2, 0x00F3, 0x00F4, 0x00F5, 0x00F6, 0x00F7, 0x00F8, 0x00F9, 0x00FA, 0x00FB, 0x00FC, 0x00FD, 0x00FE, 0x00FF],
+];
+
+// A set by its upper half, in which no character stands twice.
+#[derive(Clone, Copy)]
+pub struct SingleByte {
+    columns: [[u32; 16]; 6],
+    ghost unambiguous: { one-to-one columns ≡ true },
+}
+
+impl SingleByte {
+    pub fn iso8859_16() -> SingleByte
+        ensures { λ r. ⌜ r .columns ≡ iso8859-16 ⌝ }
+    {
+        SingleByte { columns: ISO_8859_16_COLUMNS }
+    }
+
+    pub fn sami() -> SingleByte
+        ensures { λ r. ⌜ r .columns ≡ sami ⌝ }
+    {
+        SingleByte { columns: SAMI_COLUMNS }
+    }
+}
+
+pub impl CharacterSet for SingleByte as SingleByteSet {
+    ghost codings = { λ s. single-byte-codings (s .columns) };
+
+    ghost openings = { λ _. single-byte-openings };
+
+    ghost causes = { λ _. single-byte-causes };
+
+    fn read(&self, bytes: &[u8]) -> Result<Reading, SetRefusal> {
+        let [first, ..] = bytes else {
+            return Ok(Reading::Open);
+        };
+        match character_at(&self.columns, *first) {
+            Some(character) => Ok(Reading::Found {
+                character,
+                length: 1,
+            }),
+            None => Err(Cause::NotInUse.into()),
+        }
+    }
+
+    fn write(&self, number: u32) -> Option<Coding> {
+        let byte = byte_of(&self.columns, number)?;
+        Some(Coding::new(byte))
+    }
+}
