@@ -7,8 +7,9 @@ run:
 	@rt check finetalc > target/run.log 2>&1 || { cat target/run.log; exit 1; }
 	@target/bin/finetalc < crates/finetalc/stdin
 
-# Checks what the tests expect against the standard's names, then everything else.
+# Checks what the tests expect against the standard's names and the system's converter, then everything else.
 test:
 	@tools/repertoire.py --check
+	@tools/vectors.py --check
 	@rt fmt --check
 	@rt ci

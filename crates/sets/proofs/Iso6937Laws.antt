@@ -31,6 +31,7 @@ written c s e = alone-or-pair (byte-of supplementary c) refl e
     in-pairs : (o : Option (ℕ × ℕ)) → pair-of c ≡ o → mapped (λ p. p .0 ∷ p .1 ∷ []) o ≡ Some s → iso6937-character s ≡ Some c
     in-pairs None h f = absurd (no-none f)
     in-pairs (Some p) h f = rw (← some-same f) (accented-of (p .0) (p .1) c h .stands)
+
     alone-or-pair : (o : Option ℕ) → byte-of supplementary c ≡ o → or-else (mapped (λ b. b ∷ []) o) (mapped (λ p. p .0 ∷ p .1 ∷ []) (pair-of c)) ≡ Some s → iso6937-character s ≡ Some c
     alone-or-pair None h f = in-pairs (pair-of c) refl f
     alone-or-pair (Some b) h f = rw (← some-same f) (standing supplementary b c h)

@@ -11,7 +11,11 @@ fn upper_at(columns: &[[u32; 16]; 6], byte: u8) -> Option<u32>
     }
     let position = (byte - 0xA0) as usize;
     let character = columns[position / 16][position % 16];
-    if character == 0 { None } else { Some(character) }
+    if character == 0 {
+        None
+    } else {
+        Some(character)
+    }
 }
 
 // The first byte from A0 on that has the character.

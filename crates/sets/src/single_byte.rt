@@ -46,13 +46,17 @@ impl SingleByte {
     pub fn iso8859_16() -> SingleByte
         ensures { λ r. ⌜ r .columns ≡ iso8859-16 ⌝ }
     {
-        SingleByte { columns: ISO_8859_16_COLUMNS }
+        SingleByte {
+            columns: ISO_8859_16_COLUMNS,
+        }
     }
 
     pub fn sami() -> SingleByte
         ensures { λ r. ⌜ r .columns ≡ sami ⌝ }
     {
-        SingleByte { columns: SAMI_COLUMNS }
+        SingleByte {
+            columns: SAMI_COLUMNS,
+        }
     }
 }
 

@@ -8,6 +8,8 @@ use charset::SetRefusalDebug;
 use charset::SetRefusalPartialEq;
 use sets::Iso6937;
 use sets::Iso6937Set;
+use sets::SingleByte;
+use sets::SingleByteSet;
 use sets::Utf8;
 use sets::Utf8Set;
 use std::test::*;
@@ -74,4 +76,20 @@ fn iso6937_pairs() -> Result<(), Fail> {
     refused(&Iso6937, &[0xC9, b'a'], 31)?;
     refused(&Iso6937, &[0x0A], 31)?;
     check(Iso6937.write(0x219).is_none())
+}
+
+#[test]
+fn single_bytes() -> Result<(), Fail> {
+    let romanian = SingleByte::iso8859_16();
+    both_ways(&romanian, &[0xAA], 0x218)?;
+    both_ways(&romanian, &[0xDE], 0x21A)?;
+    both_ways(&romanian, &[0xA4], 0x20AC)?;
+    refused(&romanian, &[0x9F], 31)?;
+    check(romanian.write(0x15E).is_none())?;
+    check(romanian.write(0x15F).is_none())?;
+    check_eq(romanian.read(&[]), Ok(Reading::Open))?;
+    let sami = SingleByte::sami();
+    both_ways(&sami, &[0xAF], 0x14A)?;
+    refused(&sami, &[0x82], 31)?;
+    check(sami.write(0).is_none())
 }
