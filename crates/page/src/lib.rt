@@ -11,6 +11,9 @@ ghost use Rattle.page.specs.Examples.{Worked-examples};
 ghost use Rattle.page.specs.Stops.{number-of, Always-written};
 ghost use Rattle.page.specs.Report.{line-of, Reports};
 ghost use Rattle.page.specs.Transcribed.{The-transcript};
+
+mod stacks;
+
 use charset::CharacterSet;
 use charset::Reading;
 use charset::SetRefusal;
@@ -19,6 +22,8 @@ use sets::Iso6937;
 use sets::Iso6937Set;
 use sets::Utf8;
 use sets::Utf8Set;
+pub use stacks::read_three_deep;
+pub use stacks::read_with_parity;
 use std::alloc::AllocError;
 use std::alloc::Global;
 

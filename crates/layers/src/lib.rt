@@ -1,0 +1,31 @@
+// Four layers, each a character set over any character set.
+mod controls;
+mod deeper;
+mod forms;
+mod list;
+mod recoded;
+mod recoding;
+mod stack;
+mod subrepertoire;
+
+pub use controls::Controls;
+pub use controls::ControlsSet;
+pub use forms::EvenParity;
+pub use forms::EvenParityForm;
+pub use forms::SingleShift;
+pub use forms::SingleShiftForm;
+pub use list::CharacterList;
+pub use list::ListRefusal;
+pub use recoded::Recoded;
+pub use recoded::RecodedSet;
+pub use recoding::ByteForm;
+pub use recoding::Form;
+pub use recoding::Move;
+pub use stack::Parity;
+pub use stack::Shift;
+pub use stack::with_controls;
+pub use stack::with_list;
+pub use stack::with_parity;
+pub use stack::with_shift;
+pub use subrepertoire::Subrepertoire;
+pub use subrepertoire::SubrepertoireSet;
