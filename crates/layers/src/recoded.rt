@@ -21,6 +21,9 @@ mod scan;
 
 use scan::Scan;
 
+// How many bytes a coding has at most.
+const LONGEST_CODING: usize = 4;
+
 #[derive(Clone, Copy)]
 pub struct Recoded<F, S> {
     pub form: F,
@@ -137,7 +140,7 @@ pub impl<F: ByteForm, S: CharacterSet> CharacterSet for Recoded<F, S> as Recoded
                 Reading::Open => {
                     if scan.broken {
                         Err(own_refusal(self.form.fault()))
-                    } else if bytes.len() >= 4 {
+                    } else if bytes.len() >= LONGEST_CODING {
                         Err(own_refusal(36))
                     } else {
                         Ok(Reading::Open)

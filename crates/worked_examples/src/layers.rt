@@ -130,7 +130,19 @@ fn lists(rt: LibcRuntime) -> Result<(), Fail> {
     refused_with(&mut list, &rt, &[0x110000], 11)?;
     refused_with(&mut list, &rt, &[0x20], 12)?;
     refused_with(&mut list, &rt, &[], 12)?;
-    check(list.contains(0x41))
+    check(list.contains(0x41))?;
+    let mut numbers = Vec::new(rt.alloc());
+    for character in 0x20..0x7Bu32 {
+        if list.contains(character) {
+            numbers.push(character)?;
+        }
+    }
+    numbers.push(0xE9)?;
+    numbers.push(0x2603)?;
+    refused_with(&mut list, &rt, &numbers, 13)?;
+    check(numbers.pop().is_some())?;
+    check(list.fill(rt.alloc(), &numbers, &Iso6937).is_ok())?;
+    check(list.contains(0xE9) && !list.contains(0x2603))
 }
 
 fn refused_with(

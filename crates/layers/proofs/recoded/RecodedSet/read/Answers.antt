@@ -13,11 +13,11 @@ returns-then-scan g c =
     let l = g .S·CharacterSet·met .lawful (c .args .self .now .below) in
     broken-here _ _ a l (c .args .bytes .now) (c .scan-front-scan .result) (c .scan-front-scan .ensures) _ _ _ (c .in-Open .is) (c .in-Ok .ensures tt) (c .if-scan .taken) (c .fault .ensures) (c .own-refusal .ensures)
 
-pub returns-then-bytes-ge4 : need.returns-then-bytes-ge4
-returns-then-bytes-ge4 g c =
+pub returns-then-bytes-ge-LONGEST-CODING : need.returns-then-bytes-ge-LONGEST-CODING
+returns-then-bytes-ge-LONGEST-CODING g c =
     let a = g .F·ByteForm·met .agrees (c .args .self .now .form) in
     let l = g .S·CharacterSet·met .lawful (c .args .self .now .below) in
-    long-here _ _ a l (c .args .bytes .now) (c .scan-front-scan .result) (c .scan-front-scan .ensures) _ _ (c .in-Open .is) (c .in-Ok .ensures tt) (c .if-scan .left) (c .if-bytes-ge4 .taken) (c .own-refusal-then-bytes-ge4 .ensures)
+    long-here _ _ a l (c .args .bytes .now) (c .scan-front-scan .result) (c .scan-front-scan .ensures) _ _ (c .in-Open .is) (c .in-Ok .ensures tt) (c .if-scan .left) (c .if-bytes-ge-LONGEST-CODING .taken) (c .own-refusal-then-bytes-ge-LONGEST-CODING .ensures)
 
 pub returns-in-Err : need.returns-in-Err
 returns-in-Err g c =
