@@ -3,7 +3,7 @@
 # Proves and builds the program, then transcribes the sample page.
 run:
 	@mkdir -p target
-	@echo "proving and building finetalc (a minute or two the first time) ..."
+	@echo "proving and building finetalc (two to three minutes the first time) ..."
 	@rt check finetalc > target/run.log 2>&1 || { cat target/run.log; exit 1; }
 	@target/bin/finetalc < crates/finetalc/stdin
 

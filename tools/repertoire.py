@@ -1,5 +1,5 @@
 #!/usr/bin/env python3
-"""Writes what `repertoire` must print, from the names of Table 4 alone (tools/table4.txt).
+"""Writes what `repertoire` must print, from the names of Table 4 (tools/table4.txt).
 
     tools/repertoire.py            write crates/repertoire/stdout
     tools/repertoire.py --check    fail if that file is not what would be written
@@ -11,7 +11,7 @@ import sys
 import unicodedata
 
 ROOT = pathlib.Path(__file__).resolve().parent.parent
-# The one name of the table that ISO/IEC 10646 does not use.
+# The one name in that file that ISO/IEC 10646 does not use.
 RENAMED = {"MUSIC NOTE": "EIGHTH NOTE"}
 
 

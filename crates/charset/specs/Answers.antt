@@ -29,14 +29,16 @@ Reads m s (Err q) = Unreadable m s × (q ≡ m .causes s)
 abbrev pub Writes : Meaning → ℕ → Option Coding → Type 0
 Writes m c r = mapped bytes-of r ≡ m .codings .string c
 
--- the same answer by a search: the shortest coding in front of at least n bytes and fewer than n + k, else what s is
+-- r, unless a character of length n is found
 abbrev pub found : Option ℕ → ℕ → Answer → Answer
 found None n r = r
 found (Some c) n r = Ok (Found c n)
 
+-- the answer of a string with no coding in front
 abbrev pub unread : Meaning → List ℕ → Answer
 unread m s = cond (m .openings s) (Ok Open) (Err (m .causes s))
 
+-- the same answer by a search: the shortest coding in front of at least n bytes and fewer than n + k, else what s is
 abbrev pub look : Meaning → List ℕ → ℕ → ℕ → Answer
 look m s n zero = unread m s
 look m s n (suc k) = found (m .codings .character (take n s)) n (look m s (suc n) k)
@@ -44,7 +46,7 @@ look m s n (suc k) = found (m .codings .character (take n s)) n (look m s (suc n
 unfoldable pub reading : Meaning → List ℕ → Answer
 reading m s = look m s 1 4
 
--- reading s has exactly one answer, r
+-- reading s has no answer but r
 abbrev pub Only-answer : Meaning → List ℕ → Answer → Type 0
 Only-answer m s r = (a : Answer) → Reads m s a → a ≡ r
 

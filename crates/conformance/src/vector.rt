@@ -1,7 +1,6 @@
 // A vector: a question about a run of strings or numbers, and the other converter's answer.
 ghost use mathlib.Core.Path.{_≡_};
-ghost use Rattle.std.specs.Slices.{found};
-ghost use Rattle.conformance.specs.Names.{name-of};
+ghost use Rattle.conformance.specs.Names.{name-of, Named};
 use crate::answer::Answer;
 use charset::CharacterSet;
 use sets::Iso6937;
@@ -32,8 +31,9 @@ impl Set {
         }
     }
 
+    // The set that a vector names.
     fn named(name: &str) -> Option<Set>
-        ensures { λ r. ⌜ found r (λ set. now (name .entry) ≡ name-of set) ⌝ }
+        ensures { λ r. ⌜ Named (now (name .entry)) r ⌝ }
     {
         match name {
             "6937" => Some(Set::Iso6937),

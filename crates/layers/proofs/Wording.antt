@@ -245,12 +245,12 @@ shift-meaning m l = record {
     as-form s t (inl h) = inl (shifts-shifted t s h)
     as-form s t (inr h) = inr (h .0, 0x19, h .1, refl, shifts-shifted t (h .0) (h .2))
 
-    cannot : (b : Bool) (p : List ℕ) (x : ℕ) → (0x80 ≤ x) ⊎ ((q t : List ℕ) × (p ≡ q ++ 0x19 ∷ []) × Shifts t q × ((x < 0x20) ⊎ (0x80 ≤ x))) → ends shift-bytes false p ≡ clean → shift-step false x ≡ Wrong
+    cannot : (b : Bool) (p : List ℕ) (x : ℕ) → (0x80 ≤ x) ⊎ ((q t : List ℕ) × (p ≡ q ++ 0x19 ∷ []) × Shifts t q × (x < 0x20)) → ends shift-bytes false p ≡ clean → shift-step false x ≡ Wrong
     cannot b p x (inl h) e = no-high false x h
     cannot b p x (inr h) e =
         let g = shifted-reads shift-agrees (h .1) (h .0) (shifts-shifted (h .1) (h .0) (h .3)) in
         absurd (no-pc (sym (clean-join shift-agrees m (h .0) false (0x19 ∷ []) (g .0) .0) ∙ ap (ends shift-bytes false) (sym (h .2)) ∙ e))
 
-    cannot′ : (p : List ℕ) (x : ℕ) → (0x80 ≤ x) ⊎ ((q t : List ℕ) × (p ≡ q ++ 0x19 ∷ []) × Shifts t q × ((x < 0x20) ⊎ (0x80 ≤ x))) → ends shift-bytes false p ≡ pending → shift-step true x ≡ Wrong
+    cannot′ : (p : List ℕ) (x : ℕ) → (0x80 ≤ x) ⊎ ((q t : List ℕ) × (p ≡ q ++ 0x19 ∷ []) × Shifts t q × (x < 0x20)) → ends shift-bytes false p ≡ pending → shift-step true x ≡ Wrong
     cannot′ p x (inl h) e = no-high true x h
-    cannot′ p x (inr h) e = elim (h .4) [ inl k ↦ no-low x k | inr k ↦ no-high true x k ]
+    cannot′ p x (inr h) e = no-low x (h .4)

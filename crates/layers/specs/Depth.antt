@@ -12,7 +12,7 @@ own n = record { cause = n; depth = 0 }
 abbrev pub up : SetRefusal → SetRefusal
 up q = record { cause = q .cause; depth = min 255 (q .depth + 1) }
 
--- the cause of a string that stands below for one that is read so: the cause from below, if there is one
+-- the cause from below if reading below refuses, else the layer's own
 abbrev pub over : Answer → SetRefusal → SetRefusal
 over (Ok r) mine = mine
 over (Err q) mine = up q

@@ -34,11 +34,12 @@ abbrev pub so-far : Option Coding → List ℕ
 so-far None = []
 so-far (Some k) = bytes-of k
 
--- a string with a byte below behind, as it is written, if it then has at most four bytes
+-- a second byte behind, if there is room
 abbrev pub joined-twice : Option (List ℕ) → ℕ → Option (List ℕ)
 joined-twice None y = None
 joined-twice (Some u) y = joined u y
 
+-- a string with a byte below behind, as it is written, if it then has at most four bytes
 abbrev pub extended : List ℕ → Form → Option (List ℕ)
 extended u (One x) = joined u x
 extended u (Two x y) = joined-twice (joined u x) y

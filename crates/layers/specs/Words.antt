@@ -1,4 +1,4 @@
--- The layers' codings and openings in plain words. Assumes nothing.
+-- The layers' codings, openings and causes in plain words. Assumes nothing.
 use mathlib.Core.Path.{_≡_}
 use mathlib.Core.Bool.{Bool, true, false, cond}
 use mathlib.Core.List.{List, [], _∷_, _++_, map}
@@ -45,7 +45,7 @@ pub record Shift-meaning (m : Meaning) : Type 0 where
   pub opens : (s : List ℕ) → Opens (shift m) s → (length s ≤ 3) × ((t : List ℕ) × Opens m t × (Shifts t s ⊎ ((p : List ℕ) × (s ≡ p ++ 0x19 ∷ []) × Shifts t p)))
   pub opened-by : (s t : List ℕ) → length s ≤ 3 → Opens m t → Shifts t s ⊎ ((p : List ℕ) × (s ≡ p ++ 0x19 ∷ []) × Shifts t p) → Opens (shift m) s
   -- a byte that cannot go on after an opening
-  pub cause-35 : (p rest : List ℕ) (x : ℕ) → Opens (shift m) p → (0x80 ≤ x) ⊎ ((q t : List ℕ) × (p ≡ q ++ 0x19 ∷ []) × Shifts t q × ((x < 0x20) ⊎ (0x80 ≤ x))) → shift m .causes (p ++ x ∷ rest) ≡ own 35
+  pub cause-35 : (p rest : List ℕ) (x : ℕ) → Opens (shift m) p → (0x80 ≤ x) ⊎ ((q t : List ℕ) × (p ≡ q ++ 0x19 ∷ []) × Shifts t q × (x < 0x20)) → shift m .causes (p ++ x ∷ rest) ≡ own 35
   -- open after four bytes
   pub cause-36 : (s t rest : List ℕ) → length s ≡ 4 → Opens m t → Shifts t s ⊎ ((p : List ℕ) × (s ≡ p ++ 0x19 ∷ []) × Shifts t p) → shift m .causes (s ++ rest) ≡ own 36
   -- a cause from below

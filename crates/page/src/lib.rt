@@ -77,6 +77,7 @@ impl Page {
     }
 }
 
+// Reads a page in one set and writes it in another, up to its end or its stop.
 pub fn transcribe<S: CharacterSet, T: CharacterSet>(
     heap: Global,
     source: &S,
@@ -142,7 +143,7 @@ pub fn to_utf8(heap: Global, bytes: &[u8]) -> Result<Page, AllocError>
 }
 
 // How many bytes a page may have.
-const LONGEST_PAGE: usize = 65_536;
+pub const LONGEST_PAGE: usize = 65_536;
 
 // What the program writes of an input: the text of the page and a line on how it went, or 14 where the input is too long
 // for a page.

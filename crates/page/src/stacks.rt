@@ -25,7 +25,7 @@ const PAGE_CONTROLS: [bool; 32] = [
     false, false, false, false, false, false, false, false, false, false, false, false, false, false, false, false,
 ];
 
-// What stands in front of a page of 7-bit ISO/IEC 6937 with parity.
+// What stands in front of a page of 7-bit ISO/IEC 6937 with the controls of a page, all under parity.
 pub fn read_with_parity(bytes: &[u8]) -> Result<Reading, SetRefusal>
     ensures { λ r. ⌜ Read-by-laws (parity (controls page-controls (shift iso6937))) (now (bytes .entry)) r ⌝ }
 {
@@ -33,7 +33,7 @@ pub fn read_with_parity(bytes: &[u8]) -> Result<Reading, SetRefusal>
     read_front(&stack, bytes)
 }
 
-// What stands in front of bytes under three layers, on any set.
+// What stands in front of bytes under three layers, on any set. The controls lie under shift here, as they may: layers stack in any order.
 pub fn read_three_deep<S: CharacterSet + Drop>(
     chosen: [bool; 32],
     below: S,

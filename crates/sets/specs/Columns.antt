@@ -35,10 +35,11 @@ upper-of columns c = first-from (λ b. is-character c (upper-at columns b)) 0xa0
 abbrev pub byte-of : List (List ℕ) → ℕ → Option ℕ
 byte-of columns c = cond (ascii c) (Some c) (upper-of columns c)
 
--- no character stands at two positions of the upper half, or in both halves, and none lies above U+10FFFF
+-- the character at b, if any, is found again at b and nowhere before, and does not lie above U+10FFFF
 abbrev pub placed-once : List (List ℕ) → ℕ → Option ℕ → Bool
 placed-once columns b None = true
 placed-once columns b (Some c) = is-character b (byte-of columns c) && leb c 0x10ffff
 
+-- no character stands at two positions of the upper half, or in both halves, and none lies above U+10FFFF
 unfoldable pub one-to-one : List (List ℕ) → Bool
 one-to-one columns = every-from (λ b. placed-once columns b (upper-at columns b)) 0xa0 96

@@ -1,4 +1,4 @@
-// The four layers on the sets of the product and on an odd one.
+// The four layers on the sets of this repository and on an odd one.
 use crate::odd::Odd;
 use crate::odd::OddSet;
 use charset::CharacterSet;
