@@ -10,6 +10,7 @@ pub mod MoreWording
 pub mod Listed
 pub mod Risen
 pub mod Required
+mod Faults
 mod Firsts
 mod Once
 pub mod SubReads

@@ -6,14 +6,15 @@ use mathlib.Core.Logic.{_⊎_, inl, inr}
 use Prim.Native.Nat.{ℕ, _<_}
 use lib.Dec.{ltb}
 use lib.ListN.{getD}
-use Rattle.std.proofs.shelf.Tests.{and-parts, lt-ltb}
+use Rattle.std.proofs.shelf.Tests.{and-parts, both-ways, lt-ltb}
 use Rattle.std.specs.declared.option.Option.the-variants.{None}
 use Rattle.std.specs.declared.result.Result.the-variants.{Ok, Err}
-use Rattle.charset.specs.declared.Reading.the-variants.{Found}
-use Rattle.charset.specs.Meaning.{Meaning, Laws}
-use Rattle.charset.specs.Answers.{Reads, reading}
-use Rattle.charset.proofs.Front.{reading-is, reading-bad}
-use Rattle.layers.specs.Layers.{is-refused, is-none, added}
+use Rattle.charset.specs.declared.Reading.the-variants.{Found, Open}
+use Rattle.charset.specs.Meaning.{Meaning, Unreadable, Laws}
+use Rattle.charset.specs.Answers.{Answer, Reads, reading}
+use Rattle.charset.proofs.Front.{reading-is, reading-bad, reading-reads}
+use Rattle.layers.specs.CharacterList.{on-list}
+use Rattle.layers.specs.Layers.{is-refused, is-none, added, sub}
 use Rattle.layers.specs.Words.{Sub-meaning, Added, Controls-meaning}
 use Rattle.layers.proofs.LayersKeep.{kept-parts, control-parts, added-parts, from-below, new}
 
@@ -24,7 +25,17 @@ sub-meaning ds m l = record {
   opens = λ s. refl;
   cause-37 = λ s c n h e. rw (reading-is l s (Ok (Found c n)) h) refl;
   cause-below = λ s h. rw (reading-bad l s h) refl;
+  causes-only = λ s u. go s u (reading m s) (reading-reads l s);
 }
+  where
+    off : (c : ℕ) (b : Bool) → on-list ds c ≡ b → (on-list ds c ≡ true → ⊥) → on-list ds c ≡ false
+    off c true e f = absurd (f e)
+    off c false e f = e
+
+    go : (s : List ℕ) → Unreadable (sub ds m) s → (r : Answer) → Reads m s r → Unreadable m s ⊎ ((c n : ℕ) × Reads m s (Ok (Found c n)) × (on-list ds c ≡ false))
+    go s u (Ok (Found c n)) h = inr (c, n, h, off c (on-list ds c) refl (λ e. u .0 n c (rw (h .1, e) refl)))
+    go s u (Ok Open) h = absurd (both-ways _ (u .1) h)
+    go s u (Err q) h = inl (h .0)
 
 pub added-words : (chosen : List Bool) (m : Meaning) → Laws m → (c : ℕ) → added chosen m c ≡ true → Added chosen m c
 added-words chosen m l c e =

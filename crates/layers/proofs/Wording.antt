@@ -26,30 +26,31 @@ use Rattle.layers.specs.declared.recoding.moves.Form.the-variants.{One, Two, N
 use Rattle.layers.specs.Depth.{own, up, over}
 use Rattle.layers.specs.Recoding.{End, clean, pending, broken, Recoding, put, stop, below, ends, before, shifted, is-broken, recoded, scan-cause}
 use Rattle.layers.specs.Layers.{parity-form, parity-bytes, parity, shift-form, shift-step, shift-bytes, shift}
-use Rattle.layers.specs.Words.{sealed, Seals, Shifts, Parity-meaning, Shift-meaning}
-use Rattle.charset.proofs.Front.{none-some, reading-is, reading-bad, bad-grows}
+use Rattle.layers.specs.Words.{in-parity, In-parity, Shifts, Begins-shifted, Cannot-follow, Fails-at, Parity-meaning, Shift-meaning}
+use Rattle.charset.proofs.Front.{none-some, reading-is, reading-bad, bad-grows, opening-passed}
 use Rattle.layers.specs.Recoding.{Agrees}
 use Rattle.layers.proofs.Recode.{codes-parts, codes-from, opens-parts, opens-from, shifted-reads, reads-shifted, below-take, broken-take, no-pb, no-cb, no-pc}
-use Rattle.layers.proofs.LayersKeep.{parity-agrees, shift-agrees}
+use Rattle.layers.proofs.LayersKeep.{parity-agrees, shift-agrees, parity-laws, shift-laws}
+use Rattle.layers.proofs.Faults.{first-fault}
 
--- Parity: the bytes' form is the sealed byte
-seals-shifted : (t s : List ℕ) → Seals t s → shifted parity-bytes t ≡ Some s
-seals-shifted [] s h = ap Some (sym (h .1))
-seals-shifted (b ∷ t) s h =
-    let f : parity-form b ≡ One (sealed b) = (let small = h .0 .0 in grind (arith, tells)) in
-    rw (f, seals-shifted t (map sealed t) (h .0 .1, refl)) (ap Some (sym (h .1)))
+-- Parity: the bytes' form is the in-parity byte
+parity-shifted : (t s : List ℕ) → In-parity t s → shifted parity-bytes t ≡ Some s
+parity-shifted [] s h = ap Some (sym (h .1))
+parity-shifted (b ∷ t) s h =
+    let f : parity-form b ≡ One (in-parity b) = (let small = h .0 .0 in grind (arith, tells)) in
+    rw (f, parity-shifted t (map in-parity t) (h .0 .1, refl)) (ap Some (sym (h .1)))
 
-shifted-seals : (t s : List ℕ) → shifted parity-bytes t ≡ Some s → Seals t s
-shifted-seals [] s e = (tt, cc)
-shifted-seals (b ∷ t) s e = go (cases-lt b 0x80) (shifted parity-bytes t) (shifted-seals t) e
+shifted-parity : (t s : List ℕ) → shifted parity-bytes t ≡ Some s → In-parity t s
+shifted-parity [] s e = (tt, cc)
+shifted-parity (b ∷ t) s e = go (cases-lt b 0x80) (shifted parity-bytes t) (shifted-parity t) e
   where
-    go : (b < 0x80) ⊎ (0x80 ≤ b) → (o : Option (List ℕ)) → ((u : List ℕ) → o ≡ Some u → Seals t u) → before (parity-form b) o ≡ Some s → Seals (b ∷ t) s
+    go : (b < 0x80) ⊎ (0x80 ≤ b) → (o : Option (List ℕ)) → ((u : List ℕ) → o ≡ Some u → In-parity t u) → before (parity-form b) o ≡ Some s → In-parity (b ∷ t) s
     go d None f e = absurd (none-some e)
     go (inl h) (Some u) f e =
-        let k : parity-form b ≡ One (sealed b) = grind (arith, tells) in
-        let e′ : Some (sealed b ∷ u) ≡ Some s = rw k at e in
-        let s-is : sealed b ∷ u ≡ s = cc in
-        ((h, f u refl .0), sym s-is ∙ ap {B = List ℕ} (λ z. sealed b ∷ z) (f u refl .1))
+        let k : parity-form b ≡ One (in-parity b) = grind (arith, tells) in
+        let e′ : Some (in-parity b ∷ u) ≡ Some s = rw k at e in
+        let s-is : in-parity b ∷ u ≡ s = cc in
+        ((h, f u refl .0), sym s-is ∙ ap {B = List ℕ} (λ z. in-parity b ∷ z) (f u refl .1))
     go (inr h) (Some u) f e =
         let k : parity-form b ≡ Never = grind (arith, tells) in
         let e′ : None ≡ Some s = rw k at e in
@@ -120,17 +121,27 @@ module _ {r : Recoding} (a : Agrees r) (m : Meaning) where
       go Hold k f g e = snd (r .step true y) refl k g e
       go Wrong k f g e = absurd (no-pb (sym e))
 
-  -- what follows a clean string
-  clean-join : (p : List ℕ) (q : Bool) (s : List ℕ) → ends r q p ≡ clean → (ends r q (p ++ s) ≡ ends r false s) × (below r q (p ++ s) ≡ below r q p ++ below r false s)
-  clean-join [] false s e = (refl, refl)
-  clean-join [] true s e = absurd (no-pc e)
-  clean-join (x ∷ p) q s e = go (r .step q x) (λ z. clean-join p z s) e
+  -- what follows a string that is clean, or that holds a byte
+  join : (h : Bool) (p : List ℕ) (q : Bool) (s : List ℕ) → ends r q p ≡ cond h pending clean → (ends r q (p ++ s) ≡ ends r h s) × (below r q (p ++ s) ≡ below r q p ++ below r h s)
+  join false [] false s e = (refl, refl)
+  join true [] true s e = (refl, refl)
+  join false [] true s e = absurd (no-pc e)
+  join true [] false s e = absurd (no-pc (sym e))
+  join h (x ∷ p) q s e = go (r .step q x) (λ z. join h p z s) e
     where
-      go : (v : Move) → ((z : Bool) → ends r z p ≡ clean → (ends r z (p ++ s) ≡ ends r false s) × (below r z (p ++ s) ≡ below r z p ++ below r false s)) → stop v (λ z. ends r z p) ≡ clean
-          → (stop v (λ z. ends r z (p ++ s)) ≡ ends r false s) × (put v (λ z. below r z (p ++ s)) ≡ put v (λ z. below r z p) ++ below r false s)
+      unbroken : (h : Bool) → cond h pending clean ≡ broken → ⊥
+      unbroken true e = no-pb e
+      unbroken false e = no-cb e
+
+      go : (v : Move) → ((z : Bool) → ends r z p ≡ cond h pending clean → (ends r z (p ++ s) ≡ ends r h s) × (below r z (p ++ s) ≡ below r z p ++ below r h s))
+          → stop v (λ z. ends r z p) ≡ cond h pending clean
+          → (stop v (λ z. ends r z (p ++ s)) ≡ ends r h s) × (put v (λ z. below r z (p ++ s)) ≡ put v (λ z. below r z p) ++ below r h s)
       go (Emit b) f e = (f false e .0, ap {B = List ℕ} (λ z. b ∷ z) (f false e .1))
       go Hold f e = f true e
-      go Wrong f e = absurd (no-cb (sym e))
+      go Wrong f e = absurd (unbroken h (sym e))
+
+  clean-join : (p : List ℕ) (q : Bool) (s : List ℕ) → ends r q p ≡ clean → (ends r q (p ++ s) ≡ ends r false s) × (below r q (p ++ s) ≡ below r q p ++ below r false s)
+  clean-join = join false
 
   -- an opening is a string that shifts an opening below, with or without one more held byte
   form-opens : (s : List ℕ) → Opens (recoded r m) s → (length s ≤ 3) × ((t : List ℕ) × Opens m t × ((shifted r t ≡ Some s) ⊎ Split s t))
@@ -194,14 +205,85 @@ module _ {r : Recoding} (a : Agrees r) (m : Meaning) where
         let q : m .causes (t ++ more) ≡ m .causes t = l .cause-stays (t ++ more) (length t) b′ ∙ ap (m .causes) (take-append-seam t more) in
         rw (four s rest h, j, reading-bad l (t ++ more) (bad-grows l (t ++ more) (length t) b′), q)
 
+    -- what is wrong with a byte after an opening
+    abbrev Fault : List ℕ → ℕ → Type 0
+    Fault p x = ((h : Bool) × (ends r false p ≡ cond h pending clean) × (r .step h x ≡ Wrong)) ⊎ (((length p ≡ 3) × (t : List ℕ) × Opens m t × ((shifted r t ≡ Some (p ++ x ∷ [])) ⊎ Split (p ++ x ∷ []) t)) ⊎ ((t : List ℕ) × (shifted r t ≡ Some (p ++ x ∷ [])) × Unreadable m t))
+
+    fault : (p : List ℕ) (x : ℕ) → Opens (recoded r m) p → Unreadable (recoded r m) (p ++ x ∷ []) → Fault p x
+    fault p x o u = go (ends r false p) refl
+      where
+        s : List ℕ
+        s = p ++ x ∷ []
+
+        known : (length p ≤ 3) × (is-broken (ends r false p) ≡ false) × Opens m (below r false p)
+        known = opens-parts r m p o
+
+        size : length s ≡ length p + 1
+        size = length-append p (x ∷ [])
+
+        waits : is-broken (ends r false s) ≡ false → Opens m (below r false s) → length p ≡ 3
+        waits e b = elim (cases-lt (length p) 3) [
+          | inl h ↦ absurd (both-ways _ (u .1) (opens-from r m s (omega (arith, size)) e b))
+          | inr h ↦ omega (arith, known .0)
+        ]
+
+        emitted : (h : Bool) (b : ℕ) → ends r false p ≡ cond h pending clean → r .step h x ≡ Emit b → Fault p x
+        emitted h b e k = decide (m .openings (below r false s)) refl
+          where
+            j : (ends r false s ≡ ends r h (x ∷ [])) × (below r false s ≡ below r false p ++ below r h (x ∷ []))
+            j = join h p false (x ∷ []) e
+
+            ended : ends r false s ≡ clean
+            ended = j .0 ∙ (rw k refl)
+
+            longer : below r false s ≡ below r false p ++ b ∷ []
+            longer = j .1 ∙ (rw k refl)
+
+            bare : (n c : ℕ) → Codes m (take n (below r false s)) c → ⊥
+            bare n c q =
+                let over = opening-passed l (below r false p) (b ∷ []) c n (known .2) (rw longer at q) in
+                let sized : length (below r false s) ≡ length (below r false p) + 1 = ap length longer ∙ length-append (below r false p) (b ∷ []) in
+                let q′ : Codes m (below r false s) c = subst (λ z. Codes m z c) (take-all n (below r false s) (omega arith)) q in
+                u .0 (length s) c (subst (λ z. Codes (recoded r m) z c) (sym (take-all (length s) s (omega arith))) (codes-from r m s c (omega (arith, size, known .0)) ended q′))
+
+            decide : (o : Bool) → m .openings (below r false s) ≡ o → Fault p x
+            decide true z = inr (inl (waits (rw ended refl) z, below r false s, z, inl (reads-shifted a s ended)))
+            decide false z = inr (inr (below r false s, reads-shifted a s ended, (bare, z)))
+
+        held : ends r false p ≡ clean → r .step false x ≡ Hold → Fault p x
+        held e k =
+            let j = join false p false (x ∷ []) e in
+            let ended : ends r false s ≡ pending = j .0 ∙ (rw k refl) in
+            let same : below r false s ≡ below r false p = j .1 ∙ (rw (k, append-nil) refl) in
+            let z : Opens m (below r false s) = rw same (known .2) in
+            inr (inl (waits (rw ended refl) z, below r false s, z, inr (pending-split s ended)))
+
+        go : (e : End) → ends r false p ≡ e → Fault p x
+        go clean e = step (r .step false x) refl
+          where
+            step : (v : Move) → r .step false x ≡ v → Fault p x
+            step (Emit b) k = emitted false b e k
+            step Hold k = held e k
+            step Wrong k = inl (false, e, k)
+        go pending e = step (r .step true x) refl
+          where
+            step : (v : Move) → r .step true x ≡ v → Fault p x
+            step (Emit b) k = emitted true b e k
+            step Hold k = absurd (a .no-third x k)
+            step Wrong k = inl (true, e, k)
+        go broken e = absurd (both-ways true (rw e at (known .1)) refl)
+
 pub parity-meaning : (m : Meaning) → Laws m → Parity-meaning m
 parity-meaning m l = record {
-  codes = λ s c p. let h = form-codes parity-agrees m s c p in (h .0, shifted-seals (h .0) s (h .1), h .2);
-  coded-by = λ s t c h p. form-coded parity-agrees m s t c (seals-shifted t s h) p (rw (h .1, length-map) (l .sized t c p .1));
-  opens = λ s o. let h = form-opens parity-agrees m s o in (h .1 .0, elim (h .1 .2) [ inl e ↦ shifted-seals _ s e | inr i ↦ absurd (never-held (i .1) (i .3)) ], h .1 .1);
-  opened-by = λ s t h o. form-opened parity-agrees m s t (rw (h .1, length-map) (l .opening-sized t o)) o (inl (seals-shifted t s h));
+  codes = λ s c p. let h = form-codes parity-agrees m s c p in (h .0, shifted-parity (h .0) s (h .1), h .2);
+  coded-by = λ s t c h p. form-coded parity-agrees m s t c (parity-shifted t s h) p (rw (h .1, length-map) (l .sized t c p .1));
+  opens = λ s o. let h = form-opens parity-agrees m s o in (h .1 .0, elim (h .1 .2) [ inl e ↦ shifted-parity _ s e | inr i ↦ absurd (never-held (i .1) (i .3)) ], h .1 .1);
+  opened-by = λ s t h o. form-opened parity-agrees m s t (rw (h .1, length-map) (l .opening-sized t o)) o (inl (parity-shifted t s h));
   cause-34 = λ p rest x o k. own-cause parity-agrees m l p rest x o (λ _. odd x k) (λ _. refl);
-  cause-below = λ s t rest h b d. below-cause parity-agrees m l s t rest h b (seals-shifted t s d);
+  cause-below = λ s t rest h b d. below-cause parity-agrees m l s t rest h b (parity-shifted t s d);
+  causes-only = λ s b u.
+      let f = first-fault (parity m) (parity-laws l .empty-opens) s u in
+      (f .0, f .1, f .2, f .3, f .4, kind (f .0) (f .2) (byte-at (f .0) (f .1) (f .2) (rw (f .3) at b)) (fault parity-agrees m l (f .0) (f .2) (f .4) (f .5)));
 }
   where
     odd : (x : ℕ) → ones x % 2 ≡ 1 → parity-bytes .step false x ≡ Wrong
@@ -209,6 +291,22 @@ parity-meaning m l = record {
 
     never-held : (x : ℕ) → parity-bytes .step false x ≡ Hold → ⊥
     never-held x e = grind (arith, tells)
+
+    byte-at : (p rest : List ℕ) (x : ℕ) → All (λ b. b < 0x100) (p ++ x ∷ rest) → x < 0x100
+    byte-at [] rest x h = h .0
+    byte-at (y ∷ p) rest x h = byte-at p rest x (h .1)
+
+    wrong-odd : (x : ℕ) → x < 0x100 → parity-bytes .step false x ≡ Wrong → ones x % 2 ≡ 1
+    wrong-odd x h e = grind (arith, tells)
+
+    kind : (p : List ℕ) (x : ℕ) → x < 0x100 → Fault parity-agrees m l p x → (ones x % 2 ≡ 1) ⊎ ((t : List ℕ) × In-parity t (p ++ x ∷ []) × Unreadable m t)
+    kind p x h (inl (true, e, k)) = let i = pending-split parity-agrees m p e in absurd (never-held (i .1) (i .3))
+    kind p x h (inl (false, e, k)) = inl (wrong-odd x h k)
+    kind p x h (inr (inl (three, t, o, inl e))) =
+        let g : length (p ++ x ∷ []) ≡ length t = ap length (shifted-parity t (p ++ x ∷ []) e .1) ∙ length-map t in-parity in
+        absurd (omega (arith, l .opening-sized t o, length-append p (x ∷ [])))
+    kind p x h (inr (inl (three, t, o, inr i))) = absurd (never-held (i .1) (i .3))
+    kind p x h (inr (inr (t, e, u))) = inr (t, shifted-parity t (p ++ x ∷ []) e, u)
 
 held-is : (x : ℕ) → shift-step false x ≡ Hold → x ≡ 0x19
 held-is x e = grind (arith, tells)
@@ -224,33 +322,43 @@ pub shift-meaning : (m : Meaning) → Laws m → Shift-meaning m
 shift-meaning m l = record {
   codes = λ s c p. let h = form-codes shift-agrees m s c p in (h .0, shifted-shifts (h .0) s (h .1), h .2, h .3);
   coded-by = λ s t c h p k. form-coded shift-agrees m s t c (shifts-shifted t s h) p k;
-  opens = λ s o. let h = form-opens shift-agrees m s o in (
-    h .0,
-    (
-      h .1 .0,
-      h .1 .1,
-      elim (h .1 .2) [
-        | inl e ↦ inl (shifted-shifts (h .1 .0) s e)
-        | inr i ↦ inr (i .0, i .2 ∙ ap (λ x. i .0 ++ x ∷ []) (held-is (i .1) (i .3)), shifted-shifts (h .1 .0) (i .0) (i .4))
-      ],
-    ),
-  );
+  opens = λ s o. let h = form-opens shift-agrees m s o in (h .0, (h .1 .0, h .1 .1, as-words s (h .1 .0) (h .1 .2)));
   opened-by = λ s t h o d. form-opened shift-agrees m s t h o (as-form s t d);
   cause-35 = λ p rest x o d. own-cause shift-agrees m l p rest x o (cannot false p x d) (cannot′ p x d);
   cause-36 = λ s t rest h o d. long-cause shift-agrees m l s t rest h o (as-form s t d);
   cause-below = λ s t rest h b d. below-cause shift-agrees m l s t rest h b (shifts-shifted t s d);
+  causes-only = λ s u. let f = first-fault (shift m) (shift-laws l .empty-opens) s u in (f .0, f .1, f .2, f .3, f .4, kind (f .0) (f .2) (fault shift-agrees m l (f .0) (f .2) (f .4) (f .5)));
 }
   where
-    as-form : (s t : List ℕ) → Shifts t s ⊎ ((p : List ℕ) × (s ≡ p ++ 0x19 ∷ []) × Shifts t p) → (shifted shift-bytes t ≡ Some s) ⊎ Split shift-agrees m s t
+    as-words : (s t : List ℕ) → (shifted shift-bytes t ≡ Some s) ⊎ Split shift-agrees m s t → Begins-shifted t s
+    as-words s t (inl e) = inl (shifted-shifts t s e)
+    as-words s t (inr i) = inr (i .0, i .2 ∙ ap (λ x. i .0 ++ x ∷ []) (held-is (i .1) (i .3)), shifted-shifts t (i .0) (i .4))
+
+    wrong-high : (x : ℕ) → shift-step false x ≡ Wrong → 0x80 ≤ x
+    wrong-high x e = grind (arith, tells)
+
+    wrong-second : (x : ℕ) → shift-step true x ≡ Wrong → (x < 0x20) ⊎ (0x80 ≤ x)
+    wrong-second x e = elim (cases-lt x 0x20) [ inl h ↦ inl h | inr h ↦ inr (grind (arith, tells)) ]
+
+    kind : (p : List ℕ) (x : ℕ) → Fault shift-agrees m l p x → Cannot-follow p x ⊎ (((length p ≡ 3) × (t : List ℕ) × Opens m t × Begins-shifted t (p ++ x ∷ [])) ⊎ ((t : List ℕ) × Shifts t (p ++ x ∷ []) × Unreadable m t))
+    kind p x (inl (false, e, k)) = inl (inl (wrong-high x k))
+    kind p x (inl (true, e, k)) = elim (wrong-second x k) [
+      | inl h ↦ let i = pending-split shift-agrees m p e in inl (inr (i .0, below shift-bytes false p, i .2 ∙ ap (λ y. i .0 ++ y ∷ []) (held-is (i .1) (i .3)), shifted-shifts (below shift-bytes false p) (i .0) (i .4), h))
+      | inr h ↦ inl (inl h)
+    ]
+    kind p x (inr (inl (three, t, o, d))) = inr (inl (three, t, o, as-words (p ++ x ∷ []) t d))
+    kind p x (inr (inr (t, e, u))) = inr (inr (t, shifted-shifts t (p ++ x ∷ []) e, u))
+
+    as-form : (s t : List ℕ) → Begins-shifted t s → (shifted shift-bytes t ≡ Some s) ⊎ Split shift-agrees m s t
     as-form s t (inl h) = inl (shifts-shifted t s h)
     as-form s t (inr h) = inr (h .0, 0x19, h .1, refl, shifts-shifted t (h .0) (h .2))
 
-    cannot : (b : Bool) (p : List ℕ) (x : ℕ) → (0x80 ≤ x) ⊎ ((q t : List ℕ) × (p ≡ q ++ 0x19 ∷ []) × Shifts t q × (x < 0x20)) → ends shift-bytes false p ≡ clean → shift-step false x ≡ Wrong
+    cannot : (b : Bool) (p : List ℕ) (x : ℕ) → Cannot-follow p x → ends shift-bytes false p ≡ clean → shift-step false x ≡ Wrong
     cannot b p x (inl h) e = no-high false x h
     cannot b p x (inr h) e =
         let g = shifted-reads shift-agrees (h .1) (h .0) (shifts-shifted (h .1) (h .0) (h .3)) in
         absurd (no-pc (sym (clean-join shift-agrees m (h .0) false (0x19 ∷ []) (g .0) .0) ∙ ap (ends shift-bytes false) (sym (h .2)) ∙ e))
 
-    cannot′ : (p : List ℕ) (x : ℕ) → (0x80 ≤ x) ⊎ ((q t : List ℕ) × (p ≡ q ++ 0x19 ∷ []) × Shifts t q × (x < 0x20)) → ends shift-bytes false p ≡ pending → shift-step true x ≡ Wrong
+    cannot′ : (p : List ℕ) (x : ℕ) → Cannot-follow p x → ends shift-bytes false p ≡ pending → shift-step true x ≡ Wrong
     cannot′ p x (inl h) e = no-high true x h
     cannot′ p x (inr h) e = no-low x (h .4)
