@@ -33,7 +33,7 @@ use Rattle.layers.proofs.Recode.{codes-parts, codes-from, opens-parts, opens-f
 use Rattle.layers.proofs.LayersKeep.{parity-agrees, shift-agrees, parity-laws, shift-laws}
 use Rattle.layers.proofs.Faults.{first-fault}
 
--- Parity: the bytes' form is the in-parity byte
+-- Parity: a byte's form is that byte with its parity
 parity-shifted : (t s : List ℕ) → In-parity t s → shifted parity-bytes t ≡ Some s
 parity-shifted [] s h = ap Some (sym (h .1))
 parity-shifted (b ∷ t) s h =

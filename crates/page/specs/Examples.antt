@@ -20,7 +20,7 @@ pub record Worked-examples : Type 0 where
   pub shifted-e-acute : Reads (shift iso6937) (0x19 ∷ 0x42 ∷ 0x65 ∷ []) (Ok (Found 0xe9 3))
   pub two-shifts : Reads (shift iso6937) (0x19 ∷ 0x19 ∷ []) (Err (record { cause = 35; depth = 0 }))
   -- parity over that: the same with parity, a byte with an odd number of ones, and two shifts one layer down
-  pub sealed-e-acute : parity (shift iso6937) .codings .string 0xe9 ≡ Some (0x99 ∷ 0x42 ∷ 0x65 ∷ [])
+  pub parity-e-acute : parity (shift iso6937) .codings .string 0xe9 ≡ Some (0x99 ∷ 0x42 ∷ 0x65 ∷ [])
   pub odd-byte : Reads (parity (shift iso6937)) (0x19 ∷ []) (Err (record { cause = 34; depth = 0 }))
   pub two-shifts-below : Reads (parity (shift iso6937)) (0x99 ∷ 0x99 ∷ []) (Err (record { cause = 35; depth = 1 }))
   -- shift over UTF-8: open after four bytes

@@ -115,9 +115,9 @@ fn seven_bits() -> Result<(), Fail> {
     opens(&set, &[0x19, 0x42, 0x19])?;
     refuses(&set, &[0x19, 0x42, 0x19, 0x20], 32, 1)?;
     refuses(&set, &[0x19, 0x40], 31, 1)?;
-    let sealed = with_parity(set);
-    writes(&sealed, 0xE9, &[0x99, 0x42, 0x65])?;
-    refuses(&sealed, &[0x99, 0x42, 0x2E], 32, 2)
+    let even = with_parity(set);
+    writes(&even, 0xE9, &[0x99, 0x42, 0x65])?;
+    refuses(&even, &[0x99, 0x42, 0x2E], 32, 2)
 }
 
 #[test]
