@@ -1,4 +1,6 @@
 // The differences that are known and wanted: docs/CHARACTER-SETS.md says why each is right on our side.
+ghost use mathlib.Core.Path.{_≡_};
+ghost use Rattle.conformance.specs.Differences.{control-position, first-byte, Apart, Apart-in-6937, Apart-in-reading, Apart-in-writing, Beyond};
 use crate::answer::Answer;
 use crate::vector::Set;
 use crate::vector::Vector;
@@ -38,12 +40,16 @@ pub impl fmt::Display for Known as KnownDisplay {
     }
 }
 
-fn is_control(number: u32) -> bool {
+fn is_control(number: u32) -> bool
+    ensures { λ r. ⌜ r ≡ control-position number ⌝ }
+{
     number < 0x20 || (number >= 0x7F && number < 0xA0)
 }
 
 // A character at a byte that is no position of ours.
-fn beyond(set: Set, character: u32, byte: u32) -> Known {
+fn beyond(set: Set, character: u32, byte: u32) -> Known
+    ensures { λ r. ⌜ Beyond set character byte r ⌝ }
+{
     if character == byte && is_control(byte) {
         return Known::Control;
     }
@@ -54,7 +60,9 @@ fn beyond(set: Set, character: u32, byte: u32) -> Known {
 }
 
 // A difference in what a string is read as.
-fn in_reading(vector: &Vector, number: u32, ours: Answer) -> Known {
+fn in_reading(vector: &Vector, number: u32, ours: Answer) -> Known
+    ensures { λ r. ⌜ Apart-in-reading (now (vector .entry) .set) (first-byte (now (vector .entry) .width) number) (now (vector .entry) .answer) ours r ⌝ }
+{
     let first = if vector.width > 2 {
         number >> 8
     } else {
@@ -73,7 +81,10 @@ fn in_reading(vector: &Vector, number: u32, ours: Answer) -> Known {
     }
 }
 
-fn in_6937(theirs: Answer, ours: Answer) -> Known {
+// A difference in what a string of ISO/IEC 6937 is read as.
+fn in_6937(theirs: Answer, ours: Answer) -> Known
+    ensures { λ r. ⌜ Apart-in-6937 theirs ours r ⌝ }
+{
     match (theirs, ours) {
         (Answer::Character(0x2014, 1), Answer::Character(0x2015, 1)) => Known::Bar,
         (Answer::Character(0xD0, 1), Answer::Character(0x110, 1)) => Known::Stroke,
@@ -84,7 +95,9 @@ fn in_6937(theirs: Answer, ours: Answer) -> Known {
 }
 
 // A difference in how a character is written.
-fn in_writing(vector: &Vector, number: u32) -> Known {
+fn in_writing(vector: &Vector, number: u32) -> Known
+    ensures { λ r. ⌜ Apart-in-writing (now (vector .entry) .set) number (now (vector .entry) .answer) r ⌝ }
+{
     match (vector.set, vector.answer, number) {
         (Set::Utf8, _, _) => Known::Unknown,
         (_, Answer::Bytes(0, 0), 0xE0000..=0xE007F) => Known::Tags,
@@ -97,7 +110,10 @@ fn in_writing(vector: &Vector, number: u32) -> Known {
     }
 }
 
-pub(crate) fn why(vector: &Vector, number: u32, ours: Answer) -> Known {
+// The kind of a difference.
+pub(crate) fn why(vector: &Vector, number: u32, ours: Answer) -> Known
+    ensures { λ r. ⌜ Apart (now (vector .entry)) number ours r ⌝ }
+{
     if vector.reads {
         in_reading(vector, number, ours)
     } else {

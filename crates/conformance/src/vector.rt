@@ -1,5 +1,7 @@
 // A vector: a question about a run of strings or numbers, and the other converter's answer.
 ghost use mathlib.Core.Path.{_≡_};
+ghost use Rattle.charset.specs.Meaning.{meaning};
+ghost use Rattle.conformance.specs.Agreement.{Tells-reading};
 ghost use Rattle.conformance.specs.Names.{name-of, Named};
 use crate::answer::Answer;
 use charset::CharacterSet;
@@ -56,11 +58,18 @@ pub struct Vector {
     pub answer: Answer,
 }
 
+// What a set reads in a string.
+fn reading_of<S: CharacterSet>(set: &S, bytes: &[u8]) -> Answer
+    ensures { λ r. ⌜ Tells-reading (meaning (S·CharacterSet .codings (now (set .entry))) (S·CharacterSet .openings (now (set .entry))) (S·CharacterSet .causes (now (set .entry)))) (now (bytes .entry)) r ⌝ }
+{
+    Answer::of_reading(set.read(bytes))
+}
+
 fn ask<S: CharacterSet>(set: &S, vector: &Vector, number: u32) -> Answer {
     if vector.reads {
         let bytes = number.to_be_bytes();
         let start = 4usize.saturating_sub(vector.width / 2);
-        Answer::of_reading(set.read(&bytes[start..4]))
+        reading_of(set, &bytes[start..4])
     } else {
         Answer::of_coding(set.write(number))
     }
