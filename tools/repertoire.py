@@ -7,8 +7,9 @@
 A name stands for the ISO/IEC 10646 character that Python's Unicode data has under it.
 """
 import pathlib
-import sys
 import unicodedata
+
+import stored
 
 ROOT = pathlib.Path(__file__).resolve().parent.parent
 # The one name in that file that ISO/IEC 10646 does not use.
@@ -54,14 +55,4 @@ def printed():
         yield "U+%04X %s" % (character, " ".join("%02X" % byte for byte in coding))
 
 
-def main():
-    path = ROOT / "crates/repertoire/stdout"
-    text = "".join(line + "\n" for line in printed())
-    if sys.argv[1:] == ["--check"]:
-        if path.read_text() != text:
-            sys.exit("tools/repertoire.py: crates/repertoire/stdout is not what Table 4's names give")
-    else:
-        path.write_text(text)
-
-
-main()
+stored.keep(ROOT / "crates/repertoire/stdout", printed(), "Table 4's names give")

@@ -14,6 +14,8 @@ import errno
 import pathlib
 import sys
 
+import stored
+
 PATH = pathlib.Path(__file__).resolve().parent.parent / "crates/conformance/stdin"
 # Our names of the sets, and the converter's.
 SETS = {"6937": "ISO_6937", "8859-16": "ISO-8859-16", "sami": "ISO-IR-209", "utf-8": "UTF-8"}
@@ -126,13 +128,4 @@ def vectors():
     yield from writes("utf-8", edges())
 
 
-def main():
-    text = "".join(line + "\n" for line in vectors())
-    if sys.argv[1:] == ["--check"]:
-        if PATH.read_text() != text:
-            sys.exit("tools/vectors.py: crates/conformance/stdin is not what this system's converter gives")
-    else:
-        PATH.write_text(text)
-
-
-main()
+stored.keep(PATH, vectors(), "this system's converter gives")

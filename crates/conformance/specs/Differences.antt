@@ -58,27 +58,39 @@ Apart-in-6937 theirs ours known.Window = ⊥
 Apart-in-6937 theirs ours known.Waits = ⊥
 Apart-in-6937 theirs ours known.Tags = ⊥
 
--- their answer and ours to a string whose first byte is b
+-- in reading, a string whose first byte is b
+abbrev pub Waits : Answer → Answer → Type 0
+Waits theirs ours = (theirs ≡ answer.Open) × (is-refusal ours ≡ true)
+
+abbrev pub Reads-beyond : Set → Answer → Answer → (ℕ → Type 0) → Type 0
+Reads-beyond s theirs ours Kind = (s ≡ set.Utf8 → ⊥) × ((c : ℕ) × (theirs ≡ answer.Character c 1) × (ours ≡ answer.Refused 31) × Kind c)
+
 abbrev pub Apart-in-reading : Set → ℕ → Answer → Answer → Known → Type 0
-Apart-in-reading s b theirs ours known.Waits = (theirs ≡ answer.Open) × (is-refusal ours ≡ true)
-Apart-in-reading s b theirs ours known.Control = (c : ℕ) × (theirs ≡ answer.Character c 1) × (ours ≡ answer.Refused 31) × Is-control c b
-Apart-in-reading s b theirs ours known.Window = (c : ℕ) × (theirs ≡ answer.Character c 1) × (ours ≡ answer.Refused 31) × Is-window s c b
+Apart-in-reading s b theirs ours known.Waits = Waits theirs ours
+Apart-in-reading s b theirs ours known.Control = Reads-beyond s theirs ours (λ c. Is-control c b)
+Apart-in-reading s b theirs ours known.Window = Reads-beyond s theirs ours (λ c. Is-window s c b)
 Apart-in-reading s b theirs ours known.Bar = (s ≡ set.Iso6937) × Is-bar theirs ours
 Apart-in-reading s b theirs ours known.Stroke = (s ≡ set.Iso6937) × Is-stroke theirs ours
 Apart-in-reading s b theirs ours known.SmallG = (s ≡ set.Iso6937) × Is-small-g theirs ours
 Apart-in-reading s b theirs ours known.Tags = ⊥
-Apart-in-reading s b theirs ours known.Unknown = Unit
+Apart-in-reading s b theirs ours known.Unknown = (Waits theirs ours → ⊥) × (Reads-beyond s theirs ours (λ c. Is-control c b) → ⊥) × (Reads-beyond s theirs ours (λ c. Is-window s c b) → ⊥) × (s ≡ set.Iso6937 → (Is-bar theirs ours → ⊥) × (Is-stroke theirs ours → ⊥) × (Is-small-g theirs ours → ⊥))
 
--- their answer to writing n
+-- in writing n
+abbrev pub Is-tag : Set → ℕ → Answer → Type 0
+Is-tag s n theirs = (s ≡ set.Utf8 → ⊥) × (0xe0000 ≤ n) × (n ≤ 0xe007f) × (theirs ≡ answer.Bytes 0 0)
+
+abbrev pub Writes-beyond : Set → Answer → (ℕ → Type 0) → Type 0
+Writes-beyond s theirs Kind = (s ≡ set.Utf8 → ⊥) × ((b : ℕ) × (theirs ≡ answer.Bytes b 1) × Kind b)
+
 abbrev pub Apart-in-writing : Set → ℕ → Answer → Known → Type 0
-Apart-in-writing s n theirs known.Tags = (0xe0000 ≤ n) × (n ≤ 0xe007f) × (theirs ≡ answer.Bytes 0 0)
-Apart-in-writing s n theirs known.Control = (b : ℕ) × (theirs ≡ answer.Bytes b 1) × Is-control n b
-Apart-in-writing s n theirs known.Window = (b : ℕ) × (theirs ≡ answer.Bytes b 1) × Is-window s n b
+Apart-in-writing s n theirs known.Tags = Is-tag s n theirs
+Apart-in-writing s n theirs known.Control = Writes-beyond s theirs (λ b. Is-control n b)
+Apart-in-writing s n theirs known.Window = Writes-beyond s theirs (λ b. Is-window s n b)
 Apart-in-writing s n theirs known.Bar = (s ≡ set.Iso6937) × ((n ≡ 0x2014) ⊎ (n ≡ 0x2015))
 Apart-in-writing s n theirs known.Stroke = (s ≡ set.Iso6937) × ((n ≡ 0xd0) ⊎ (n ≡ 0x110))
 Apart-in-writing s n theirs known.SmallG = (s ≡ set.Iso6937) × (n ≡ 0x123)
 Apart-in-writing s n theirs known.Waits = ⊥
-Apart-in-writing s n theirs known.Unknown = Unit
+Apart-in-writing s n theirs known.Unknown = (Is-tag s n theirs → ⊥) × (Writes-beyond s theirs (λ b. Is-control n b) → ⊥) × (Writes-beyond s theirs (λ b. Is-window s n b) → ⊥) × (s ≡ set.Iso6937 → (n ≡ 0x2014 → ⊥) × (n ≡ 0x2015 → ⊥) × (n ≡ 0xd0 → ⊥) × (n ≡ 0x110 → ⊥) × (n ≡ 0x123 → ⊥))
 
 -- a question of a vector, reading or writing n, and our answer to it
 abbrev pub Apart : Vector → ℕ → Answer → Known → Type 0
