@@ -1,4 +1,6 @@
 // What a transcript answers.
+#![tactic(auto)]
+
 ghost use Rattle.std.specs.Prelude.{◌≡◌};
 ghost use Rattle.answers.specs.declared.Refusal.TheVariants.{Faulted};
 ghost use Rattle.answers.specs.Told.{alone, with_done, fault_number, with_fault, told};

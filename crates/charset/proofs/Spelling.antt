@@ -1,9 +1,9 @@
 -- Characters in codings can be taken apart in one way. Assumes nothing.
-use Rattle.std.proofs.Common.{◌≡◌, ℕ, zero, suc, ◌+◌, ◌<◌, ◌≤◌, Bool, true, false, cond, ◌⊎◌, List, [], ◌∷◌, ◌++◌, length, take, drop, Some, sym, refl, ap, ◌∙◌, subst, inl, inr, append_assoc, append-nil, arith, length-append, length-take}
+use Rattle.std.proofs.Common.{◌≡◌, ℕ, ◌⊎◌, List, [], ◌∷◌, ◌++◌, length, take, Some, sym, refl, ap, ◌∙◌, inl, inr, append_assoc, append-nil, arith, length-append}
 use mathlib.Core.List.{append_cancel_left}
 use lib.Seq.{take-append_seam}
 use Rattle.charset.specs.Meaning.{Meaning, Codes, Opens, Laws}
-use Rattle.charset.specs.Decoding.{Spells, Decodes, DecodesOnce}
+use Rattle.charset.specs.Decoding.{Spells, DecodesOnce}
 use Rattle.charset.proofs.Front.{same_size}
 
 module _ (m : Meaning) where

@@ -1,5 +1,7 @@
 // What a character set is: its codings, openings and causes, the laws that every set keeps, and what reading and
 // writing answer.
+#![tactic(auto)]
+
 ghost use Rattle.std.specs.Prelude.{ℕ, Bool, List};
 ghost use Rattle.charset.specs.declared.SetRefusal.{SetRefusal};
 ghost use Rattle.charset.specs.Meaning.{Codings, meaning, Laws};

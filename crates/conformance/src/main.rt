@@ -1,4 +1,6 @@
 // Holds the character sets against vectors that another converter made: counts what agrees, and prints every difference.
+#![tactic(auto)]
+
 mod answer;
 mod known;
 mod vector;

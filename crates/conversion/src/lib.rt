@@ -1,4 +1,6 @@
 // Characters from one set into another: one at a time, and one after the other until something ends it.
+#![tactic(auto)]
+
 ghost use Rattle.std.specs.Prelude.{◌≡◌, ◌≤◌, ◌++◌, length, drop};
 ghost use Rattle.charset.specs.Sets.{set_of};
 ghost use Rattle.conversion.specs.declared.Fault.TheVariants.{Unread};

@@ -1,4 +1,6 @@
 // Reads a page of 8-bit ISO/IEC 6937 from standard input, and writes it in UTF-8 with a line on how it went.
+#![tactic(auto)]
+
 use page::{LONGEST_PAGE, report};
 use std::io::{Read, Write};
 

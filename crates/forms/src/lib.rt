@@ -1,4 +1,6 @@
 // The text of a page, by its form.
+#![tactic(auto)]
+
 ghost use Rattle.std.specs.Prelude.{◌≡◌, ◌<◌, length, IfOk, Ok, Err};
 ghost use Rattle.charset.specs.Sets.{set_of};
 ghost use Rattle.layers.specs.Layers.{controls};

@@ -1,15 +1,15 @@
 -- Which controls are added, and what is read with them. Assumes nothing.
-use Rattle.std.proofs.Common.{◌≡◌, ℕ, ◌<◌, ◌≤◌, Bool, true, false, cond, ◌&&◌, ltb, List, [], ◌∷◌, length, get_or, None, Ok, Err, sym, refl, ap, ◌∙◌, subst, arith}
+use Rattle.std.proofs.Common.{◌≡◌, ℕ, ◌<◌, ◌≤◌, Bool, true, false, cond, ◌&&◌, ltb, List, [], ◌∷◌, length, get_or, None, Ok, Err, sym, refl, subst, arith}
 use Rattle.std.proofs.lemmas.Bool.{lt-ltb}
 use Rattle.charset.specs.declared.SetRefusal.{SetRefusal}
 use Rattle.charset.specs.declared.Reading.{Reading}
-use Rattle.charset.specs.declared.Reading.TheVariants.{Found, Open}
+use Rattle.charset.specs.declared.Reading.TheVariants.{Found}
 use Rattle.charset.specs.Meaning.{Meaning, Laws}
-use Rattle.charset.specs.Answers.{Answer, Reads, reading}
+use Rattle.charset.specs.Answers.{Reads}
 use Rattle.charset.proofs.Front.{reading_is}
 use Rattle.layers.specs.Depth.{up}
-use Rattle.layers.specs.Layers.{is_refused, is_none, added, controls}
-use Rattle.layers.proofs.LayerReads.{control_read, reads_controls}
+use Rattle.layers.specs.Layers.{added, controls}
+use Rattle.layers.proofs.LayerReads.{reads_controls}
 
 and_false : (b : Bool) → false ≡ (b && false)
 and_false true = refl

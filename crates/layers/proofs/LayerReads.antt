@@ -1,18 +1,18 @@
 -- What a layer reads, from what the set below reads. Assumes nothing.
-use Rattle.std.proofs.Common.{◌≡◌, ℕ, zero, suc, ◌+◌, ◌-◌, ◌<◌, ◌≤◌, min, Bool, true, false, cond, not, ◌&&◌, leb, ◌⊎◌, List, [], ◌∷◌, ◌++◌, length, take, Some, None, Ok, Err, Option, sym, refl, ap, ◌∙◌, subst, inl, inr, arith, lit<, lit≤, length-take, length-take-le, take_all, take-take}
-use Rattle.std.proofs.lemmas.Bool.{cases_lt, both_ways, le-leb, and_left, and_right, lt-leb}
+use Rattle.std.proofs.Common.{◌≡◌, ℕ, zero, suc, ◌≤◌, Bool, true, false, cond, ◌⊎◌, List, [], ◌∷◌, length, take, Ok, Err, refl, ap, inl, inr, arith, length-take, take_all, take-take}
+use Rattle.std.proofs.lemmas.Bool.{cases_lt, both_ways}
 use Rattle.charset.specs.declared.SetRefusal.{SetRefusal}
 use Rattle.charset.specs.declared.Reading.TheVariants.{Found, Open}
-use Rattle.charset.specs.Meaning.{Meaning, Codes, Opens, NoFront, Unreadable, Laws}
+use Rattle.charset.specs.Meaning.{Meaning, Codes, Opens, Unreadable, Laws}
 use Rattle.charset.specs.Answers.{Answer, Reads, reading}
-use Rattle.layers.specs.Depth.{own, up, over}
-use Rattle.layers.specs.Recoding.{Recoding, End, clean, pending, broken, below, ends, is_broken, recoded, scan_cause}
+use Rattle.layers.specs.Depth.{own, up}
+use Rattle.layers.specs.Recoding.{Recoding, clean, below, ends, is_broken, recoded}
 use Rattle.layers.specs.CharacterList.{on_list}
-use Rattle.layers.specs.Layers.{kept, sub, added, controls}
-use Rattle.charset.proofs.Front.{none_some, take_self, take_min, same_size, reading_reads, reading_is, reading_bad, open_apart}
+use Rattle.layers.specs.Layers.{sub, added, controls}
+use Rattle.charset.proofs.Front.{take_self, reading_is, open_apart}
 use Rattle.layers.specs.Recoding.{Agrees}
-use Rattle.layers.specs.Recode.{codes_parts, codes_from, opens_parts, opens_from, no_front, below_take, recoded_laws}
-use Rattle.layers.specs.LayersKeep.{kept_parts, sub_laws, control_parts, added_parts, from_below, new, controls_laws}
+use Rattle.layers.specs.Recode.{codes_parts, codes_from, opens_parts, opens_from, below_take, recoded_laws}
+use Rattle.layers.specs.LayersKeep.{kept_parts, control_parts, from_below, new}
 
 abbrev pub sub_read : List ℕ → Answer → Answer
 sub_read ds (Ok (Found c n)) = cond (on_list ds c) (Ok (Found c n)) (Err (own 37))

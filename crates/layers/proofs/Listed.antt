@@ -1,5 +1,5 @@
 -- A character stands on a list where some place has it. Assumes nothing.
-use Rattle.std.proofs.Common.{◌≡◌, ℕ, zero, suc, ◌<◌, Bool, true, false, eqb, List, [], ◌∷◌, length, get_or, Decides, refl, subst, inl, inr, arith}
+use Rattle.std.proofs.Common.{◌≡◌, ℕ, zero, suc, ◌<◌, Bool, true, false, eqb, List, [], ◌∷◌, length, get_or, refl, subst, inl, inr, arith}
 use Rattle.std.proofs.lemmas.Bool.{cases_eq, cases_Bool, eq-eqb, ne_eqb}
 use Rattle.std.specs.List.{IsAnyAnswer, ContainsAt as Has}
 use Rattle.std.proofs.lemmas.List.Elements.{contains_decides}
@@ -27,7 +27,7 @@ listed_at (x ∷ xs) (suc k) h = elim (cases_Bool (eqb x (get_or xs k 0))) [
   | inr e ↦ rw e (listed_at xs k (omega arith))
 ]
 
-pub listed_by_contains : (xs : List ℕ) (c : ℕ) (r : Bool) → IsAnyAnswer (λ y t. Decides t (y ≡ c)) xs r → r ≡ on_list xs c
+pub listed_by_contains : (xs : List ℕ) (c : ℕ) (r : Bool) → IsAnyAnswer (λ y t. eqb y c ≡ t) xs r → r ≡ on_list xs c
 listed_by_contains xs c r h = same_from_decides r (on_list xs c) (contains_decides eqb Decides-eqb xs c r h) (has_place xs c, from_place xs c)
   where
     has_place : (xs : List ℕ) (c : ℕ) → on_list xs c ≡ true → Has xs c

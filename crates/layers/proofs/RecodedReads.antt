@@ -1,10 +1,10 @@
 -- What a scan of the front and a reading of it below say of the whole. Assumes nothing.
-use Rattle.std.proofs.Common.{◌≡◌, ℕ, zero, suc, ◌+◌, ◌-◌, ◌<◌, ◌≤◌, min, Bool, true, false, cond, ◌⊎◌, List, [], ◌∷◌, ◌++◌, length, take, drop, Some, None, Ok, Err, Option, sym, refl, ap, ◌∙◌, subst, inl, inr, arith, length-take, length-take-le, take_all, take-take}
+use Rattle.std.proofs.Common.{◌≡◌, ℕ, zero, suc, ◌+◌, ◌-◌, ◌≤◌, min, true, false, List, [], ◌∷◌, length, take, Some, None, Ok, Err, Option, sym, refl, ap, ◌∙◌, subst, inl, inr, arith, length-take, length-take-le, take-take}
 use native.Mathlib.Nat.{sub-zero}
 use Rattle.charset.specs.declared.SetRefusal.{SetRefusal}
 use Rattle.charset.specs.declared.Reading.{Reading}
 use Rattle.charset.specs.declared.Reading.TheVariants.{Found, Open}
-use Rattle.charset.specs.Meaning.{Meaning, Codes, Opens, Laws}
+use Rattle.charset.specs.Meaning.{Meaning, Opens, Laws}
 use Rattle.charset.specs.Answers.{Answer, Reads}
 use Rattle.charset.proofs.Front.{none_some}
 use Rattle.layers.specs.declared.recoding.moves.Form.{Form}

@@ -1,11 +1,8 @@
 -- A scan, byte by byte. Assumes nothing.
-use Rattle.std.proofs.Common.{◌≡◌, ℕ, suc, ◌+◌, ◌*◌, ◌<◌, ◌≤◌, min, Bool, true, false, cond, ◌⊎◌, List, [], ◌∷◌, ◌++◌, length, get_or, take, drop, set, sym, refl, ap, ◌∙◌, inl, inr, append_assoc, append-nil, zero-add, add-one, arith, length-set, drop_of_length-le, length-take, drop-cons, take-suc-set}
+use Rattle.std.proofs.Common.{◌≡◌, ℕ, ◌+◌, ◌<◌, ◌≤◌, Bool, true, false, cond, ◌⊎◌, List, [], ◌∷◌, ◌++◌, length, get_or, take, drop, set, sym, refl, ap, ◌∙◌, inl, inr, append_assoc, append-nil, add-one, arith, length-set, drop_of_length-le, length-take, drop-cons, take-suc-set}
 use Rattle.std.proofs.lemmas.List.{get_or-take}
-use Rattle.layers.specs.declared.recoding.moves.Move.{Move}
 use Rattle.layers.specs.declared.recoding.moves.Move.TheVariants.{Emit, Hold, Wrong}
-use Rattle.layers.specs.declared.recoding.moves.Form.{Form}
-use Rattle.layers.specs.declared.recoded.scan.Scan.{Scan}
-use Rattle.layers.specs.Recoding.{Recoding, End, clean, pending, broken, below, ends, is_broken}
+use Rattle.layers.specs.Recoding.{Recoding, clean, pending, below, ends, is_broken}
 use Rattle.layers.specs.Scans.{Scans, form_size, size_of}
 
 -- the first bytes of s stand for the first bytes below, and what follows for the rest

@@ -1,26 +1,24 @@
 -- The layers' meanings in plain words. Assumes nothing.
-use Rattle.std.proofs.Common.{◌≡◌, ℕ, zero, suc, ◌+◌, ◌-◌, ◌%◌, ◌<◌, ◌≤◌, min, Bool, true, false, cond, not, ◌&&◌, eqb, ltb, leb, ◌⊎◌, List, [], ◌∷◌, ◌++◌, map, length, take, Some, None, Ok, Err, Option, sym, refl, ap, ◌∙◌, subst, inl, inr, append-nil, arith, lit<, lit≤, length-append, length-take, take_all}
+use Rattle.std.proofs.Common.{◌≡◌, ℕ, suc, ◌+◌, ◌-◌, ◌%◌, ◌<◌, ◌≤◌, Bool, true, false, cond, ◌⊎◌, List, [], ◌∷◌, ◌++◌, map, length, take, Some, None, Ok, Option, sym, refl, ap, ◌∙◌, subst, inl, inr, append-nil, arith, length-append, take_all}
 use lib.ListN.{length-map}
-use lib.Seq.{take-append-le, take-append-add, take-append_seam}
+use lib.Seq.{take-append-add, take-append_seam}
 use lib.Count.{ones}
 use Rattle.std.proofs.lemmas.Bool.{cases_lt, both_ways}
 use Rattle.std.proofs.lemmas.Bool.Decides.{nat_tests}
 use Rattle.std.specs.List.{AllByRecursion as All}
-use Rattle.charset.specs.declared.SetRefusal.{SetRefusal}
-use Rattle.charset.specs.declared.Reading.TheVariants.{Found, Open}
-use Rattle.charset.specs.Meaning.{Meaning, Codes, Opens, NoFront, Unreadable, Laws}
-use Rattle.charset.specs.Answers.{Answer, Reads, reading}
+use Rattle.charset.specs.declared.Reading.TheVariants.{Open}
+use Rattle.charset.specs.Meaning.{Meaning, Codes, Opens, Unreadable, Laws}
 use Rattle.layers.specs.declared.recoding.moves.Move.{Move}
 use Rattle.layers.specs.declared.recoding.moves.Move.TheVariants.{Emit, Hold, Wrong}
 use Rattle.layers.specs.declared.recoding.moves.Form.{Form}
 use Rattle.layers.specs.declared.recoding.moves.Form.TheVariants.{One, Two, Never}
-use Rattle.layers.specs.Depth.{own, up, over}
-use Rattle.layers.specs.Recoding.{End, clean, pending, broken, Recoding, put, stop, below, ends, before, shifted, is_broken, recoded, scan_cause}
+use Rattle.layers.specs.Depth.{own, up}
+use Rattle.layers.specs.Recoding.{End, clean, pending, broken, Recoding, put, stop, below, ends, before, shifted, is_broken, recoded}
 use Rattle.layers.specs.Layers.{parity_form, parity_bytes, parity, shift_form, shift_step, shift_bytes, shift}
-use Rattle.layers.specs.Words.{in_parity, InParity, Shifts, BeginsShifted, CannotFollow, FailsAt, ParityMeaning, ShiftMeaning}
+use Rattle.layers.specs.Words.{in_parity, InParity, Shifts, BeginsShifted, CannotFollow, ParityMeaning, ShiftMeaning}
 use Rattle.charset.proofs.Front.{none_some, reading_is, reading_bad, bad_grows, opening_passed}
 use Rattle.layers.specs.Recoding.{Agrees}
-use Rattle.layers.specs.Recode.{codes_parts, codes_from, opens_parts, opens_from, shifted_reads, reads_shifted, below_take, broken_take, no_pb, no_cb, no_pc}
+use Rattle.layers.specs.Recode.{codes_parts, codes_from, opens_parts, opens_from, shifted_reads, reads_shifted, no_pb, no_cb, no_pc}
 use Rattle.layers.specs.LayersKeep.{parity_agrees, shift_agrees, parity_laws, shift_laws}
 use Rattle.layers.proofs.Faults.{first_fault}
 

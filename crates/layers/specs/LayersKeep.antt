@@ -1,24 +1,19 @@
 -- Each layer over a lawful set is a lawful set. Assumes nothing.
-use Rattle.std.specs.Prelude.{◌≡◌, ℕ, zero, suc, ◌+◌, ◌-◌, ◌*◌, ◌%◌, ◌^◌, ◌<◌, ◌≤◌, min, Bool, true, false, cond, not, ◌&&◌, eqb, ltb, leb, ◌⊎◌, List, [], ◌∷◌, ◌++◌, length, take, Some, None, Ok, Err, Option, refl}
-use Rattle.std.proofs.Common.{sym, ap, ◌∙◌, subst, inl, inr, arith, length-take, take_all, take-take, length-take-le, lit<, lit≤}
-use Rattle.std.specs.Int.Count.{ones, ones_in}
+use Rattle.std.specs.Prelude.{◌≡◌, ℕ, ◌+◌, ◌*◌, ◌%◌, ◌^◌, ◌<◌, ◌≤◌, min, Bool, true, false, cond, ◌⊎◌, List, [], ◌∷◌, length, take, Some, None, Ok, Err, Option, refl}
+use Rattle.std.proofs.Common.{sym, ap, ◌∙◌, inl, inr, arith, length-take, take-take, lit<, lit≤}
+use Rattle.std.specs.Int.Count.{ones}
 use Rattle.std.proofs.lemmas.Nat.{ones_cat}
-use Rattle.std.proofs.lemmas.Bool.{cases_lt, cases_Bool, both_ways, leb-true, le-leb, and_parts, not-true, eqb-true, ltb-true, lt-ltb, eq-eqb}
-use Rattle.std.proofs.lemmas.Bool.Decides.{nat_tests, Decides-below_and, Decides-eqb}
-use Rattle.std.specs.List.{AllByRecursion as All}
-use Rattle.charset.specs.declared.SetRefusal.{SetRefusal}
+use Rattle.std.proofs.lemmas.Bool.{cases_lt, both_ways, and_parts, ltb-true}
+use Rattle.std.proofs.lemmas.Bool.Decides.{nat_tests}
 use Rattle.charset.specs.declared.Reading.TheVariants.{Found, Open}
 use Rattle.charset.specs.Meaning.{Meaning, Codes, Opens, NoFront, Unreadable, Laws}
 use Rattle.charset.specs.Answers.{Answer, Reads, reading}
-use Rattle.layers.specs.declared.recoding.moves.Move.{Move}
-use Rattle.layers.specs.declared.recoding.moves.Move.TheVariants.{Emit, Hold, Wrong}
-use Rattle.layers.specs.declared.recoding.moves.Form.{Form}
-use Rattle.layers.specs.declared.recoding.moves.Form.TheVariants.{One, Two, Never}
+use Rattle.layers.specs.declared.recoding.moves.Move.TheVariants.{Emit}
+use Rattle.layers.specs.declared.recoding.moves.Form.TheVariants.{One}
 use Rattle.layers.specs.Depth.{own, up, over}
-use Rattle.layers.specs.Recoding.{Recoding}
 use Rattle.layers.specs.CharacterList.{on_list}
-use Rattle.layers.specs.Layers.{parity_step, parity_form, parity_bytes, parity, shift_step, shift_form, shift_bytes, shift, kept, sub, is_refused, is_none, added, control, else_char, controls}
-use Rattle.charset.proofs.Front.{none_some, take_min, take_self, reading_reads, reading_is, reading_bad, bad_grows, alone}
+use Rattle.layers.specs.Layers.{parity_step, parity_form, parity_bytes, parity, shift_bytes, shift, kept, sub, is_refused, is_none, added, control, else_char, controls}
+use Rattle.charset.proofs.Front.{none_some, reading_reads, reading_is, reading_bad, bad_grows, alone}
 use Rattle.layers.specs.Recoding.{Agrees}
 use Rattle.layers.specs.Recode.{recoded_laws, over_small}
 

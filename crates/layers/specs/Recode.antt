@@ -1,6 +1,6 @@
 -- A set under another form of bytes keeps the laws. Assumes nothing.
-use Rattle.std.specs.Prelude.{◌≡◌, ℕ, zero, suc, ◌+◌, ◌<◌, ◌≤◌, min, Bool, true, false, cond, not, ◌&&◌, ◌⊎◌, List, [], ◌∷◌, ◌++◌, length, take, Some, None, Ok, Err, Option, nat_le, refl}
-use Rattle.std.proofs.Common.{sym, ap, ◌∙◌, subst, inl, inr, arith, length-take, take_all, take-take, length-take-le, lit<}
+use Rattle.std.specs.Prelude.{◌≡◌, ℕ, zero, suc, ◌<◌, ◌≤◌, Bool, true, false, cond, ◌&&◌, ◌⊎◌, List, [], ◌∷◌, length, take, Some, None, Ok, Err, Option, nat_le, refl}
+use Rattle.std.proofs.Common.{sym, ap, ◌∙◌, inl, inr, arith, length-take, take_all, take-take, lit<}
 use Rattle.std.proofs.lemmas.Bool.{cases_lt, both_ways, leb-true, le-leb, and_parts, not-true}
 use Rattle.std.specs.List.{AllByRecursion as All}
 use Rattle.charset.specs.declared.SetRefusal.{SetRefusal}
@@ -11,9 +11,9 @@ use Rattle.layers.specs.declared.recoding.moves.Move.{Move}
 use Rattle.layers.specs.declared.recoding.moves.Move.TheVariants.{Emit, Hold, Wrong}
 use Rattle.layers.specs.declared.recoding.moves.Form.{Form}
 use Rattle.layers.specs.declared.recoding.moves.Form.TheVariants.{One, Two, Never}
-use Rattle.layers.specs.Depth.{own, up, over}
+use Rattle.layers.specs.Depth.{up, over}
 use Rattle.layers.specs.Recoding.{End, clean, pending, broken, Recoding, put, stop, below, ends, before, shifted, is_clean, is_broken, at_most_four, shift_of, scan_cause, recoded, Agrees}
-use Rattle.charset.proofs.Front.{none_some, take_min, take_self, reading_reads, reading_is, reading_bad, bad_grows, alone}
+use Rattle.charset.proofs.Front.{none_some, reading_reads, reading_bad, bad_grows, alone}
 
 pub over_small : {m : Meaning} → Laws m → (t : List ℕ) (q : SetRefusal) → q.cause < 256 → q.depth < 256
     → ((over (reading m t) q).cause < 256) × ((over (reading m t) q).depth < 256)

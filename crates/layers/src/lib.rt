@@ -1,4 +1,6 @@
 // Four layers, each a character set over any character set.
+#![tactic(auto)]
+
 mod controls;
 mod deeper;
 mod forms;

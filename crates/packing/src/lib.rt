@@ -1,4 +1,6 @@
 // Packing pages into a roll.
+#![tactic(auto)]
+
 mod builder;
 
 pub use builder::{Builder, PackRefusal};

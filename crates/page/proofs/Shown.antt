@@ -9,7 +9,6 @@ use Rattle.sets.specs.declared.cause.Cause.TheVariants.{NotInUse, NoPair}
 use Rattle.sets.specs.Causes.{refusal}
 use Rattle.sets.specs.Search.{first_from}
 use Rattle.sets.specs.Iso6937Table.{supplementary, diacritics}
-use Rattle.sets.specs.Iso6937.{iso6937}
 use Rattle.sets.specs.Iso6937Laws.{iso6937_laws}
 use Rattle.sets.specs.Utf8Laws.{utf8_laws}
 use Rattle.layers.specs.Depth.{own, up}

@@ -1,5 +1,5 @@
 -- One turn of the transcription of a page. Assumes nothing.
-use Rattle.std.proofs.Common.{◌≡◌, ℕ, ◌+◌, ◌-◌, ◌<◌, ◌≤◌, List, [], ◌∷◌, ◌++◌, length, take, drop, Some, None, Ok, Option, sym, refl, ap, ◌∙◌, subst, append-nil, arith, length-append, length-drop, length-take, length-take-le, take-add}
+use Rattle.std.proofs.Common.{◌≡◌, ℕ, ◌+◌, ◌-◌, ◌<◌, ◌≤◌, List, [], ◌∷◌, ◌++◌, length, take, drop, Some, None, Ok, Option, sym, refl, subst, append-nil, arith, length-append, length-drop, length-take, take-add}
 use Rattle.std.proofs.lemmas.List.{take_rest, drop_all}
 use Rattle.charset.specs.declared.Reading.{Reading}
 use Rattle.charset.specs.declared.Reading.TheVariants.{Found, Open}

@@ -1,5 +1,5 @@
 -- The number of each reason to stop. Assumes nothing.
-use Rattle.std.specs.Prelude.{◌≡◌, ℕ, Some, Option, ◌≢◌}
+use Rattle.std.specs.Prelude.{ℕ, Some, Option, ◌≢◌}
 use Rattle.page.specs.declared.Stop.{Stop}
 use Rattle.page.specs.declared.Stop.TheVariants.{Unread, Unwritten, Unfinished}
 

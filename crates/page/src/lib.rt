@@ -1,4 +1,6 @@
 // A whole page from one character set into another.
+#![tactic(auto)]
+
 ghost use Rattle.std.specs.Prelude.{◌≡◌, ℕ, IfOk, string_bytes};
 ghost use Rattle.charset.specs.Meaning.{meaning};
 ghost use Rattle.sets.specs.Iso6937.{iso6937};

@@ -1,4 +1,6 @@
 // The pages of a roll, and why a roll or a page is refused.
+#![tactic(auto)]
+
 mod fault;
 mod page;
 

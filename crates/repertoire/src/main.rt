@@ -1,4 +1,6 @@
 // Prints all that ISO/IEC 6937 reads in one and two bytes, and all that it writes, with equal neighbours on one line.
+#![tactic(auto)]
+
 use charset::{CharacterSet, Reading, SetRefusal};
 use sets::Iso6937;
 use std::io;

@@ -1,4 +1,6 @@
 // What the program writes of a roll.
+#![tactic(auto)]
+
 ghost use Rattle.std.specs.Prelude.{◌≡◌, ℕ, ◌+◌, ◌≤◌, ◌++◌, IfOk, string_bytes};
 ghost use Rattle.roll.specs.Format.{index_offset, page_count};
 ghost use Rattle.roll.specs.Opened.{Accepted, Opened};

@@ -1,4 +1,6 @@
 // The format of a roll: pages, then an index, then a trailer of sixteen bytes.
+#![tactic(auto)]
+
 ghost use Rattle.std.specs.Prelude.{◌≡◌, ◌+◌, ◌*◌, ◌<◌, ◌≤◌, length, MatchResult};
 ghost use Rattle.roll.specs.Entries.{padded_at, Ends};
 ghost use Rattle.roll.specs.Format.{word, index_offset, page_count};

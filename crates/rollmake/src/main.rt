@@ -1,4 +1,6 @@
 // Packs page files into a roll: `rollmake FORM FILE [FORM FILE ..] > ROLL`.
+#![tactic(auto)]
+
 use anyhow::anyhow;
 use packing::Builder;
 use std::io::Write;

@@ -1,5 +1,5 @@
 -- What ISO/IEC 6937 cannot read, and why. Assumes nothing.
-use Rattle.std.proofs.Common.{◌≡◌, ℕ, ◌<◌, ◌≤◌, List, [], ◌∷◌, length, get_or, is_some, Some, None, sym, refl, ap, ◌∙◌, arith}
+use Rattle.std.proofs.Common.{◌≡◌, ℕ, ◌<◌, ◌≤◌, List, [], ◌∷◌, length, get_or, is_some, Some, None, refl, ap, ◌∙◌, arith}
 use Rattle.charset.specs.Meaning.{Unreadable}
 use Rattle.charset.proofs.Front.{unreadable_here}
 use Rattle.sets.specs.declared.cause.Cause.TheVariants.{NotInUse, NoPair}

@@ -1,10 +1,9 @@
 -- A code table of single bytes is one to one where its test passes. Assumes nothing.
 use Rattle.std.specs.Prelude.{◌≡◌, ℕ, ◌<◌, ◌≤◌, Bool, true, false, cond, ◌&&◌, List, Some, None, Option, nat_le, refl}
-use Rattle.std.proofs.Common.{sym, ap, ◌∙◌, arith}
+use Rattle.std.proofs.Common.{ap, arith}
 use Rattle.std.proofs.lemmas.Bool.{and_parts, eqb-true, leb-true}
 use Rattle.std.proofs.lemmas.Bool.Decides.{nat_tests}
-use Rattle.sets.specs.Search.{every_from}
-use Rattle.sets.specs.Columns.{ascii, in_use, upper_at, character_at, is_character, upper_of, byte_of, placed_once, one_to_one}
+use Rattle.sets.specs.Columns.{ascii, upper_at, character_at, is_character, upper_of, byte_of, placed_once, one_to_one}
 use Rattle.sets.specs.SearchLemmas.{first_passes}
 use Rattle.sets.specs.Tables.{no_none, no_true, some_same, every_at}
 

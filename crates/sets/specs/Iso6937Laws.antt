@@ -1,11 +1,9 @@
 -- ISO/IEC 6937 keeps the laws of a character set. Assumes nothing.
-use Rattle.std.specs.Prelude.{◌≡◌, ℕ, zero, suc, ◌<◌, ◌≤◌, Bool, true, false, cond, ◌&&◌, ltb, leb, ◌⊎◌, List, [], ◌∷◌, length, take, is_some, Some, None, Option, refl}
-use Rattle.std.proofs.Common.{sym, ap, ◌∙◌, inl, inr, arith}
+use Rattle.std.specs.Prelude.{◌≡◌, ℕ, zero, suc, ◌<◌, ◌≤◌, Bool, true, false, cond, List, [], ◌∷◌, length, take, is_some, Some, None, Option, refl}
+use Rattle.std.proofs.Common.{sym, ◌∙◌, arith}
 use Rattle.std.specs.Option.{option_map}
 use Rattle.std.specs.List.{AllByRecursion as All}
-use Rattle.std.proofs.lemmas.Bool.{and_parts, leb-true, ltb-true}
-use Rattle.std.proofs.lemmas.Bool.Decides.{nat_tests}
-use Rattle.charset.specs.Meaning.{Codes, Opens, NoFront, Unreadable, Laws}
+use Rattle.charset.specs.Meaning.{NoFront, Unreadable, Laws}
 use Rattle.charset.proofs.Front.{alone}
 use Rattle.sets.specs.declared.cause.Cause.TheVariants.{NotInUse, NoPair}
 use Rattle.sets.specs.Causes.{refusal}

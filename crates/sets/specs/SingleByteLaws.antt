@@ -1,9 +1,9 @@
 -- A set of single bytes keeps the laws of a character set, and what it cannot read. Assumes nothing.
-use Rattle.std.specs.Prelude.{◌≡◌, ℕ, zero, suc, ◌<◌, ◌≤◌, Bool, true, false, List, [], ◌∷◌, length, take, Some, None, Option, slice_index, refl}
+use Rattle.std.specs.Prelude.{◌≡◌, ℕ, zero, suc, ◌<◌, ◌≤◌, true, List, [], ◌∷◌, length, take, Some, None, Option, slice_index, refl}
 use Rattle.std.proofs.Common.{sym, ap, ◌∙◌, arith}
 use Rattle.std.specs.Option.{option_map}
 use Rattle.std.specs.List.{AllByRecursion as All}
-use Rattle.charset.specs.Meaning.{Codes, Opens, NoFront, Unreadable, Laws}
+use Rattle.charset.specs.Meaning.{NoFront, Unreadable, Laws}
 use Rattle.charset.proofs.Front.{alone, unreadable_here}
 use Rattle.sets.specs.Columns.{character_at, byte_of, one_to_one}
 use Rattle.sets.specs.SingleByte.{single_byte_character, single_byte_openings, single_byte}

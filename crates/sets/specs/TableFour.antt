@@ -1,11 +1,11 @@
 -- Table 4 is one to one, by tests over the whole of it that antt computes. Assumes nothing.
-use Rattle.std.specs.Prelude.{◌≡◌, ℕ, ◌<◌, ◌≤◌, Bool, true, false, cond, not, ◌&&◌, List, [], ◌∷◌, is_some, Some, None, Option, ◌==◌, nat_lt, refl}
-use Rattle.std.proofs.Common.{sym, ap, ◌∙◌, arith}
+use Rattle.std.specs.Prelude.{◌≡◌, ℕ, ◌<◌, Bool, true, false, cond, not, ◌&&◌, List, [], ◌∷◌, is_some, Some, None, Option, ◌==◌, nat_lt, refl}
+use Rattle.std.proofs.Common.{ap, ◌∙◌, arith}
 use Rattle.std.proofs.Math.Path.{subst₃}
 use Rattle.std.specs.Option.{option_map}
 use Rattle.std.proofs.lemmas.Bool.{and_parts, ltb-true}
 use Rattle.std.proofs.lemmas.Bool.Decides.{nat_tests}
-use Rattle.sets.specs.Search.{when, first_in, first_from, every_from}
+use Rattle.sets.specs.Search.{when, first_from, every_from}
 use Rattle.sets.specs.Columns.{ascii, upper_at, is_character, one_to_one}
 use Rattle.sets.specs.Iso6937Table.{supplementary, diacritics}
 use Rattle.sets.specs.Iso6937.{single, letters_of, by_letter, by_character, letter_of, among, pair, pair_of, iso6937_string}

@@ -1,10 +1,10 @@
 -- UTF-8 keeps the laws of a character set. Assumes nothing.
-use Rattle.std.specs.Prelude.{◌≡◌, ℕ, zero, suc, ◌+◌, ◌-◌, ◌*◌, ◌/◌, ◌%◌, ◌<◌, ◌≤◌, Bool, true, false, cond, ◌&&◌, ◌⊎◌, List, [], ◌∷◌, length, take, Some, None, Option, ◌≢◌, nat_lt, refl}
-use Rattle.std.proofs.Common.{sym, ap, ◌∙◌, inl, inr, arith}
+use Rattle.std.specs.Prelude.{◌≡◌, ℕ, zero, suc, ◌+◌, ◌-◌, ◌*◌, ◌/◌, ◌<◌, ◌≤◌, Bool, true, false, List, [], ◌∷◌, length, take, Some, None, ◌≢◌, nat_lt, refl}
+use Rattle.std.proofs.Common.{sym, ◌∙◌, inl, inr, arith}
 use Rattle.std.specs.List.{AllByRecursion as All}
 use Rattle.std.proofs.lemmas.Bool.{lt-ltb, le-ltb, cases_lt, cases_Bool}
 use Rattle.std.proofs.lemmas.Bool.Decides.{nat_tests}
-use Rattle.charset.specs.Meaning.{Codes, Opens, NoFront, Unreadable, Laws}
+use Rattle.charset.specs.Meaning.{NoFront, Laws}
 use Rattle.charset.proofs.Front.{alone}
 use Rattle.sets.specs.Search.{when}
 use Rattle.sets.specs.Utf8.{least_second, two_octets, three_octets, four_octets, surrogate, low_bits, utf8_character, utf8_string, utf8_openings, utf8, OpeningsBeginCodings}

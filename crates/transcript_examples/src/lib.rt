@@ -1,4 +1,6 @@
 // Worked examples of transcripts and rolls, as tests.
+#![tactic(auto)]
+
 #[cfg(test)]
 mod rolls;
 #[cfg(test)]

@@ -1,4 +1,6 @@
 // A whole text from one character set into another, by the use of a transcript.
+#![tactic(auto)]
+
 ghost use Rattle.std.specs.Prelude.{◌≡◌, IfOk, Some};
 ghost use Rattle.charset.specs.Sets.{set_of};
 ghost use Rattle.answers.specs.declared.FaultAt.{FaultAt as Placed};

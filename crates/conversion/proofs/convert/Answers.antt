@@ -27,29 +27,29 @@ step_size S T l held sector out o last part count at put n k far s =
     let h = found_size S T l (held ++ sector) out o count at put far s.0 n s.2 in
     (h.0, omega (arith, h.1, length-append held sector))
 
-pub overflow-add-characters : goal.overflow-add-characters
-overflow-add-characters g c =
+pub overflow_add-characters : goal.overflow_add-characters
+overflow_add-characters g c =
     let S = of_source g c.args.source.now in
     let T = of_target g c.args.target.now in
     let l = g.met.S.CharacterSet.lawful c.args.source.now in
     let held = front_bytes c.args.held in
     let sector = c.args.sector.now in
     let part = take (length c.run.output - c.run.written) (drop c.run.written c.run.output) in
-    let w = step_as S T (drop c.run.read (held ++ sector)) part c.convert-at.new.output c.in-Written.is c.in-Ok.ensures in
-    let z = step_size S T l held sector c.args.output.now c.run.output c.convert-at.new.output part c.run.characters c.run.read c.run.written c.in-Written.more c.in-Written.put c.run.invariant w in
+    let w = step_as S T (drop c.run.read (held ++ sector)) part c.convert_at.new.output c.in-Written.is c.in-Ok.ensures in
+    let z = step_size S T l held sector c.args.output.now c.run.output c.convert_at.new.output part c.run.characters c.run.read c.run.written c.in-Written.more c.in-Written.put c.run.invariant w in
     let few = length-take c.args.held.len c.args.held.bytes in
     omega (arith, z.0, z.1, few, c.args.held.sized, c.run.invariant.few)
 
-pub overflow-add-read : goal.overflow-add-read
-overflow-add-read g c =
+pub overflow_add-read : goal.overflow_add-read
+overflow_add-read g c =
     let S = of_source g c.args.source.now in
     let T = of_target g c.args.target.now in
     let l = g.met.S.CharacterSet.lawful c.args.source.now in
     let held = front_bytes c.args.held in
     let sector = c.args.sector.now in
     let part = take (length c.run.output - c.run.written) (drop c.run.written c.run.output) in
-    let w = step_as S T (drop c.run.read (held ++ sector)) part c.convert-at.new.output c.in-Written.is c.in-Ok.ensures in
-    let z = step_size S T l held sector c.args.output.now c.run.output c.convert-at.new.output part c.run.characters c.run.read c.run.written c.in-Written.more c.in-Written.put c.run.invariant w in
+    let w = step_as S T (drop c.run.read (held ++ sector)) part c.convert_at.new.output c.in-Written.is c.in-Ok.ensures in
+    let z = step_size S T l held sector c.args.output.now c.run.output c.convert_at.new.output part c.run.characters c.run.read c.run.written c.in-Written.more c.in-Written.put c.run.invariant w in
     let few = length-take c.args.held.len c.args.held.bytes in
     omega (arith, z.0, z.1, few, c.args.held.sized)
 
@@ -61,8 +61,8 @@ run-smaller g c =
     let held = front_bytes c.args.held in
     let sector = c.args.sector.now in
     let part = take (length c.run.output - c.run.written) (drop c.run.written c.run.output) in
-    let w = step_as S T (drop c.run.read (held ++ sector)) part c.convert-at.new.output c.in-Written.is c.in-Ok.ensures in
-    let z = step_size S T l held sector c.args.output.now c.run.output c.convert-at.new.output part c.run.characters c.run.read c.run.written c.in-Written.more c.in-Written.put c.run.invariant w in
+    let w = step_as S T (drop c.run.read (held ++ sector)) part c.convert_at.new.output c.in-Written.is c.in-Ok.ensures in
+    let z = step_size S T l held sector c.args.output.now c.run.output c.convert_at.new.output part c.run.characters c.run.read c.run.written c.in-Written.more c.in-Written.put c.run.invariant w in
     omega (arith, z.0, z.1, length-append held sector)
 
 pub run-preserved : goal.run-preserved
@@ -73,8 +73,8 @@ run-preserved g c =
     let held = front_bytes c.args.held in
     let sector = c.args.sector.now in
     let part = take (length c.run.output - c.run.written) (drop c.run.written c.run.output) in
-    let w = step_as S T (drop c.run.read (held ++ sector)) part c.convert-at.new.output c.in-Written.is c.in-Ok.ensures in
-    far_more S T l (held ++ sector) c.args.output.now c.run.output c.run.characters c.run.read c.run.written c.run.invariant _ c.convert-at.new.output c.in-Written.more c.in-Written.put w refl
+    let w = step_as S T (drop c.run.read (held ++ sector)) part c.convert_at.new.output c.in-Written.is c.in-Ok.ensures in
+    far_more S T l (held ++ sector) c.args.output.now c.run.output c.run.characters c.run.read c.run.written c.run.invariant _ c.convert_at.new.output c.in-Written.more c.in-Written.put w refl
 
 pub returns-in-Paused : goal.returns-in-Paused
 returns-in-Paused g c =
@@ -84,8 +84,8 @@ returns-in-Paused g c =
     let held = front_bytes c.args.held in
     let sector = c.args.sector.now in
     let part = take (length c.run.output - c.run.written) (drop c.run.written c.run.output) in
-    let w = step_as S T (drop c.run.read (held ++ sector)) part c.convert-at.new.output c.in-Paused.is c.in-Ok.ensures in
-    far_ends S T l (held ++ sector) c.args.output.now c.run.output c.run.characters c.run.read c.run.written c.run.invariant (Ok c.in-Paused.pause) _ c.convert-at.new.output w.0 w.1 refl
+    let w = step_as S T (drop c.run.read (held ++ sector)) part c.convert_at.new.output c.in-Paused.is c.in-Ok.ensures in
+    far_ends S T l (held ++ sector) c.args.output.now c.run.output c.run.characters c.run.read c.run.written c.run.invariant (Ok c.in-Paused.pause) _ c.convert_at.new.output w.0 w.1 refl
 
 pub returns-in-Err : goal.returns-in-Err
 returns-in-Err g c =
@@ -96,4 +96,4 @@ returns-in-Err g c =
     let sector = c.args.sector.now in
     let part = take (length c.run.output - c.run.written) (drop c.run.written c.run.output) in
     let w = c.in-Err.ensures in
-    far_ends S T l (held ++ sector) c.args.output.now c.run.output c.run.characters c.run.read c.run.written c.run.invariant (Err c.in-Err.fault) _ c.convert-at.new.output w.0 w.1 refl
+    far_ends S T l (held ++ sector) c.args.output.now c.run.output c.run.characters c.run.read c.run.written c.run.invariant (Err c.in-Err.fault) _ c.convert_at.new.output w.0 w.1 refl

@@ -1,8 +1,8 @@
-use Rattle.std.proofs.Common.{◌≡◌, ℕ, ◌≤◌, List, [], ◌∷◌, ◌++◌, length, vec_items, Option, refl, ap, ◌∙◌, append_assoc, arith, rules}
+use Rattle.std.proofs.Common.{◌≡◌, ℕ, ◌≤◌, List, [], ◌∷◌, ◌++◌, length, vec_items, Option, refl, ◌∙◌, append_assoc, arith, rules}
 use Rattle.sets.specs.Iso6937.{iso6937}
 use Rattle.sets.specs.Utf8.{utf8}
 use Rattle.page.specs.declared.Stop.{Stop}
-use Rattle.page.specs.Report.{line_of, Reported, Reports}
+use Rattle.page.specs.Report.{line_of, Reports}
 use Rattle.page.specs.Transcribed.{TheTranscript}
 use Rattle.page.proofs.report.Goals as goal
 
@@ -22,8 +22,8 @@ below input text line a b out characters offset stop short t l e f g = (
 
 pub returns : goal.returns
 returns c =
-    let a : vec_items c.push.new.self ≡ vec_items c.in-ok-page.page.text ++ 0x0a ∷ [] = search rules in
-    let b : vec_items c.extend-from-slice.new.self ≡ vec_items c.push.new.self ++ c.as-bytes.result.now = search rules in
-    let out : vec_items c.push-2.new.self ≡ vec_items c.extend-from-slice.new.self ++ 0x0a ∷ [] = search rules in
-    below c.args.input.now (vec_items c.in-ok-page.page.text) c.as-bytes.result.now _ _ _ _ _ _ c.if-input-gt-LONGEST-PAGE.false c.in-ok-page.ensures.transcript
-    (c.as-bytes.ensures.value ∙ c.in-ok-line.ensures) a b out
+    let a : vec_items c.push.new.self ≡ vec_items c.in_ok-page.page.text ++ 0x0a ∷ [] = search rules in
+    let b : vec_items c.extend_from_slice.new.self ≡ vec_items c.push.new.self ++ c.as_bytes.result.now = search rules in
+    let out : vec_items c.push-2.new.self ≡ vec_items c.extend_from_slice.new.self ++ 0x0a ∷ [] = search rules in
+    below c.args.input.now (vec_items c.in_ok-page.page.text) c.as_bytes.result.now _ _ _ _ _ _ c.if-input-gt-LONGEST_PAGE.false c.in_ok-page.ensures.transcript
+    (c.as_bytes.ensures.value ∙ c.in_ok-line.ensures) a b out

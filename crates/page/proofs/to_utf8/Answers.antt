@@ -1,4 +1,4 @@
-use Rattle.std.proofs.Common.{◌≡◌, ℕ, List, take, drop, IfOk, Some, Ok, Err, vec_items, Option, Result, sym, ◌∙◌, subst}
+use Rattle.std.proofs.Common.{ℕ, List, take, drop, IfOk, Some, Ok, Err, vec_items, Option, Result, sym, ◌∙◌, subst}
 use Rattle.sets.specs.Iso6937.{iso6937}
 use Rattle.sets.specs.Utf8.{utf8}
 use Rattle.sets.specs.Iso6937Laws.{low_character}

@@ -12,7 +12,7 @@ page-smaller g c =
 pub page-preserved : goal.page-preserved
 page-preserved g c =
     let l = g.met.S.CharacterSet.lawful c.args.source.now in
-    let longer : vec_items c.extend-from-slice.new.self ≡ vec_items c.page.text ++ bytes_of c.in-Some.coding = search rules in
+    let longer : vec_items c.extend_from_slice.new.self ≡ vec_items c.page.text ++ bytes_of c.in-Some.coding = search rules in
     far_more _ _ l _ _ _ _ c.page.invariant _ _ _ _ (read_as _ c.args.bytes.now c.page.offset _ _ c.in-Found.is c.in-Ok.ensures) (sym c.in-Some.ensures) longer
 
 pub returns-in-None : goal.returns-in-None

@@ -1,4 +1,4 @@
-use Rattle.std.proofs.Common.{inl, inr}
+use Rattle.std.proofs.Common.{inr}
 use Rattle.layers.proofs.Scanning.{far_emit, far_hold, far_ended}
 use Rattle.layers.proofs.recoded.scan_front.Goals as goal
 use Rattle.layers.proofs.recoded.scan_front.Goals.{in-Emit, in-Hold}

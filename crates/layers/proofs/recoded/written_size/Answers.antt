@@ -1,4 +1,4 @@
-use Rattle.std.proofs.Common.{◌≡◌, ℕ, ◌+◌, ◌*◌, ◌<◌, ◌≤◌, List, [], length, get_or, drop, sym, refl, ap, ◌∙◌, arith, drop_of_length-le}
+use Rattle.std.proofs.Common.{◌≡◌, ℕ, ◌+◌, ◌*◌, ◌<◌, ◌≤◌, List, length, get_or, drop, ap, ◌∙◌, arith, drop_of_length-le}
 use Rattle.layers.specs.declared.recoding.moves.Form.{Form}
 use Rattle.layers.specs.declared.recoding.moves.Form.TheVariants.{One, Two, Never}
 use Rattle.layers.specs.Recoding.{Recoding}
@@ -22,7 +22,7 @@ ended : (r : Recoding) (t : List ℕ) (i n : ℕ) → length t ≤ i → n + siz
 ended r t i n h e = let z : size_of r (drop i t) ≡ 0 = ap (size_of r) (drop_of_length-le t h) in omega arith
 
 pub loop-byte-preserved : goal.loop-byte-preserved
-loop-byte-preserved g c = more (g.F.ByteForm.recoding c.args.form.now) c.args.string.now c.loop-byte.byte-index c.loop-byte.size _ c.loop-byte-test.true (c.form-size-size.ensures ∙ ap form_size c.form.ensures) c.loop-byte.invariant
+loop-byte-preserved g c = more (g.F.ByteForm.recoding c.args.form.now) c.args.string.now c.loop-byte.byte-index c.loop-byte.size _ c.loop-byte-test.true (c.form_size-size.ensures ∙ ap form_size c.form.ensures) c.loop-byte.invariant
 
 pub returns : goal.returns
 returns g c = ended (g.F.ByteForm.recoding c.args.form.now) c.args.string.now c.loop-byte.byte-index c.loop-byte.size c.loop-byte-test.false c.loop-byte.invariant.1

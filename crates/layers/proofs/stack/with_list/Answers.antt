@@ -6,4 +6,4 @@ use Rattle.layers.proofs.stack.with_list.Goals as goal
 pub returns : goal.returns
 returns g c =
     let l = g.met.S.CharacterSet.lawful c.args.below in
-    record { on = (refl, refl); keeps-laws = sub_laws (vec_items c.args.list.characters) l; means-subrepertoire = sub_meaning (vec_items c.args.list.characters) _ l }
+    record { on = (refl, refl); keeps_laws = sub_laws (vec_items c.args.list.characters) l; means_subrepertoire = sub_meaning (vec_items c.args.list.characters) _ l }

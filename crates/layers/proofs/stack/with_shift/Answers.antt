@@ -6,4 +6,4 @@ use Rattle.layers.proofs.stack.with_shift.Goals as goal
 pub returns : goal.returns
 returns g c =
     let l = g.met.S.CharacterSet.lawful c.args.below in
-    record { on = refl; keeps-laws = shift_laws l; means-shift = shift_meaning _ l }
+    record { on = refl; keeps_laws = shift_laws l; means_shift = shift_meaning _ l }

@@ -1,4 +1,4 @@
-use Rattle.std.proofs.Common.{◌≡◌, ℕ, ◌+◌, ◌<◌, List, [], ◌∷◌, ◌++◌, length, take, set, Some, Option, sym, ap, ◌∙◌, add-one, arith, length-take-le, take-suc-set, rules}
+use Rattle.std.proofs.Common.{◌≡◌, ℕ, ◌+◌, ◌<◌, List, length, take, set, Some, add-one, arith, length-take-le, take-suc-set, rules}
 use Rattle.std.proofs.lemmas.Bool.{lt-ltb}
 use Rattle.charset.specs.Strings.{joined}
 use Rattle.charset.proofs.coding.Coding.then.Goals as goal

@@ -18,14 +18,14 @@ nothing self first more r at b h k e =
 
 pub returns-then-at-first : goal.returns-then-at-first
 returns-then-at-first c =
-    among (front_bytes c.args.self) c.as-bytes-first.result.now c.args.more.now (front_bytes c.empty.result) (front_bytes c.followed-by.result) _ c.args.at
-    c.as-bytes-first.ensures (omega (arith, length-take c.args.self.len c.args.self.bytes, c.args.self.sized)) c.if-at-first.true c.empty.ensures c.followed-by.ensures c.followed-by-then-at-first.ensures
+    among (front_bytes c.args.self) c.as_bytes-first.result.now c.args.more.now (front_bytes c.empty.result) (front_bytes c.followed_by.result) _ c.args.at
+    c.as_bytes-first.ensures (omega (arith, length-take c.args.self.len c.args.self.bytes, c.args.self.sized)) c.if-at-first.true c.empty.ensures c.followed_by.ensures c.followed_by-then-at-first.ensures
 
 pub returns-then-behind-more : goal.returns-then-behind-more
 returns-then-behind-more c =
-    past (front_bytes c.args.self) c.as-bytes-first.result.now c.args.more.now (front_bytes c.empty-then-behind-more.result) _ c.args.at
-    c.as-bytes-first.ensures c.if-at-first.false c.empty-then-behind-more.ensures c.followed-by-then-behind-more.ensures
+    past (front_bytes c.args.self) c.as_bytes-first.result.now c.args.more.now (front_bytes c.empty-then-behind-more.result) _ c.args.at
+    c.as_bytes-first.ensures c.if-at-first.false c.empty-then-behind-more.ensures c.followed_by-then-behind-more.ensures
 
 pub returns-else-behind-more : goal.returns-else-behind-more
 returns-else-behind-more c =
-    nothing (front_bytes c.args.self) c.as-bytes-first.result.now c.args.more.now _ c.args.at c.as-bytes-first.ensures c.if-at-first.false c.if-behind-more.false c.empty-else-behind-more.ensures
+    nothing (front_bytes c.args.self) c.as_bytes-first.result.now c.args.more.now _ c.args.at c.as_bytes-first.ensures c.if-at-first.false c.if-behind-more.false c.empty-else-behind-more.ensures

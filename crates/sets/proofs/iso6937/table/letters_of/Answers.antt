@@ -3,4 +3,4 @@ use Rattle.sets.proofs.iso6937.table.letters_of.Goals as goal
 
 pub returns : goal.returns
 unfolding diacritics
-returns c = c.letters-in.ensures
+returns c = c.letters_in.ensures

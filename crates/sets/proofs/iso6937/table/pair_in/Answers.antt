@@ -8,7 +8,7 @@ pub returns-in-Some : goal.returns-in-Some
 returns-in-Some c = in_here (with_character _) _ _ c.loop-diacritic.invariant _ _ c.loop-diacritic-test.true (sym (ap (option_map _) c.in-Some.ensures))
 
 pub loop-diacritic-preserved : goal.loop-diacritic-preserved
-loop-diacritic-preserved c = in_past (with_character _) _ _ c.loop-diacritic.invariant _ c.loop-diacritic-test.true (sym (ap (option_map _) c.in-default.ensures))
+loop-diacritic-preserved c = in_past (with_character _) _ _ c.loop-diacritic.invariant _ c.loop-diacritic-test.true (sym (ap (option_map _) c.in_default.ensures))
 
 pub returns : goal.returns
 returns c = in_ended (with_character _) _ _ c.loop-diacritic.invariant c.loop-diacritic-test.false

@@ -3,4 +3,4 @@ use Rattle.sets.proofs.iso6937.table.single.Goals as goal
 
 pub returns : goal.returns
 unfolding supplementary
-returns c = c.character-at.ensures
+returns c = c.character_at.ensures

@@ -3,4 +3,4 @@ use Rattle.sets.proofs.iso6937.table.single_byte.Goals as goal
 
 pub returns : goal.returns
 unfolding supplementary
-returns c = c.byte-of.ensures
+returns c = c.byte_of.ensures

@@ -5,17 +5,17 @@ use Rattle.transcript.specs.Snapshots.{snapshot}
 use Rattle.transcript.proofs.Calling.{accepted, refused}
 use Rattle.transcript.proofs.calls.Transcript.close.Goals as goal
 
-pub returns-in-err-call : goal.returns-in-err-call
-returns-in-err-call g c =
+pub returns-in_err-call : goal.returns-in_err-call
+returns-in_err-call g c =
     let m = c.args.self.now in
     let x = g.S.CharacterSet in let y = g.T.CharacterSet in
-    let err = err_from_is_err_and c.from-residual.result c.from-residual.ensures.1 in
+    let err = err_from_is_err_and c.from_residual.result c.from_residual.ensures.1 in
     record {
       sets = c.call.ensures.sets;
       told =
           refused (set_of x m.source) (set_of y m.target)
           (snapshot m.progress) (snapshot c.call.new.self.progress) c.closing.result _ c.call.result c.call.ensures.told c.closing.ensures
-          c.in-err-call.field-0.0 c.from-residual.result c.in-err-call.was (err.1 ∙ ap Err err.2);
+          c.in_err-call.field-0.0 c.from_residual.result c.in_err-call.was (err.1 ∙ ap Err err.2);
     }
 
 pub returns : goal.returns
@@ -27,5 +27,5 @@ returns g c =
       told =
           accepted (set_of x m.source) (set_of y m.target)
           (snapshot m.progress) (snapshot c.call.new.self.progress) c.closing.result _ c.call.result c.call.ensures.told c.closing.ensures
-          c.in-ok-call.field-0 c.in-ok-call.was;
+          c.in_ok-call.field-0 c.in_ok-call.was;
     }

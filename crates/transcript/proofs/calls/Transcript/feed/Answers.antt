@@ -10,7 +10,7 @@ settle-requires g c =
     let s = g.S.CharacterSet in let x = m.source in
     let t = g.T.CharacterSet in let y = m.target in
     possible (set_of s x) (set_of t y) (g.met.S.CharacterSet.lawful x) (g.met.T.CharacterSet.lawful y)
-    (snapshot m.progress) c.args.sector.now c.args.output.now c.convert-run.new.output c.convert-run.result c.convert-run.ensures c.in-ok-within-limits.ensures
+    (snapshot m.progress) c.args.sector.now c.args.output.now c.convert-run.new.output c.convert-run.result c.convert-run.ensures c.in_ok-within_limits.ensures
 
 pub returns : goal.returns
 returns g c =
@@ -21,6 +21,6 @@ returns g c =
       sets = (refl, refl);
       told =
           offered_open (set_of s x) (set_of t y) (g.met.S.CharacterSet.lawful x) (g.met.T.CharacterSet.lawful y)
-          (snapshot m.progress) c.args.sector.now c.args.output.now c.convert-run.new.output c.convert-run.result c.convert-run.ensures c.in-ok-within-limits.ensures
+          (snapshot m.progress) c.args.sector.now c.args.output.now c.convert-run.new.output c.convert-run.result c.convert-run.ensures c.in_ok-within_limits.ensures
           c.settle.result (snapshot c.settle.new.self) c.settle.ensures;
     }
