@@ -1,7 +1,7 @@
 -- A character set by its meaning, and the laws of every set. Assumes nothing.
 -- A string is a list of numbers; the laws say that those of codings and openings are bytes.
 use Rattle.std.specs.Prelude.{◌≡◌, ℕ, ◌<◌, ◌≤◌, Bool, true, false, List, [], length, take, Some, Option}
-use Rattle.std.specs.List.{AllByRecursion as All}
+use Rattle.std.specs.List.{AllByRecursion}
 use Rattle.charset.specs.declared.SetRefusal.{SetRefusal}
 
 -- the codings in both directions: the character that a whole string codes, and the string that codes a character
@@ -40,12 +40,12 @@ pub record Laws (m : Meaning) : Type 0 where
   pub read : (s : List ℕ) (c : ℕ) → Codes m s c → m.codings.string c ≡ Some s
   -- a coding has one to four bytes and codes a character up to U+10FFFF
   pub sized : (s : List ℕ) (c : ℕ) → Codes m s c → (0 < length s) × (length s ≤ 4)
-  pub bytes : (s : List ℕ) (c : ℕ) → Codes m s c → All (λ b. b < 256) s
+  pub bytes : (s : List ℕ) (c : ℕ) → Codes m s c → AllByRecursion (λ b. b < 256) s
   pub characters : (s : List ℕ) (c : ℕ) → Codes m s c → c ≤ 0x10ffff
   -- an opening has at most three bytes, and the empty string is one
   pub empty_opens : Opens m []
   pub opening_sized : (s : List ℕ) → Opens m s → length s ≤ 3
-  pub opening_bytes : (s : List ℕ) → Opens m s → All (λ b. b < 256) s
+  pub opening_bytes : (s : List ℕ) → Opens m s → AllByRecursion (λ b. b < 256) s
   -- no coding is the beginning of a different coding
   pub coding_alone : (s : List ℕ) (c d n : ℕ) → Codes m s c → Codes m (take n s) d → take n s ≡ s
   -- every proper beginning of a coding is an opening, and so is every beginning of an opening

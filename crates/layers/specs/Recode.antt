@@ -2,7 +2,7 @@
 use Rattle.std.specs.Prelude.{◌≡◌, ℕ, zero, suc, ◌<◌, ◌≤◌, Bool, true, false, cond, ◌&&◌, ◌⊎◌, List, [], ◌∷◌, length, take, Some, None, Ok, Err, Option, nat_le, refl}
 use Rattle.std.proofs.Common.{sym, ap, ◌∙◌, inl, inr, arith, length-take, take_all, take-take, lit<}
 use Rattle.std.proofs.lemmas.Bool.{cases_lt, both_ways, leb-true, le-leb, and_parts, not-true}
-use Rattle.std.specs.List.{AllByRecursion as All}
+use Rattle.std.specs.List.{AllByRecursion}
 use Rattle.charset.specs.declared.SetRefusal.{SetRefusal}
 use Rattle.charset.specs.declared.Reading.TheVariants.{Found, Open}
 use Rattle.charset.specs.Meaning.{Meaning, Codes, Opens, NoFront, Unreadable, Laws}
@@ -139,12 +139,12 @@ module _ {r : Recoding} (a : Agrees r) where
       go Hold h f g e = snd (r.step true y) refl h g e
       go Wrong h f g e = absurd (no_cb (sym e))
 
-  pub unbroken_bytes : (s : List ℕ) (p : Bool) → is_broken (ends r p s) ≡ false → All (λ b. b < 256) s
+  pub unbroken_bytes : (s : List ℕ) (p : Bool) → is_broken (ends r p s) ≡ false → AllByRecursion (λ b. b < 256) s
   unbroken_bytes [] p e = tt
   unbroken_bytes (x ∷ s) p e = go p (r.step p x) refl (unbroken_bytes s) e
     where
-      go : (p : Bool) (v : Move) → r.step p x ≡ v → ((q : Bool) → is_broken (ends r q s) ≡ false → All (λ b. b < 256) s) → is_broken (stop v (λ q. ends r q s)) ≡ false
-          → (x < 256) × All (λ b. b < 256) s
+      go : (p : Bool) (v : Move) → r.step p x ≡ v → ((q : Bool) → is_broken (ends r q s) ≡ false → AllByRecursion (λ b. b < 256) s) → is_broken (stop v (λ q. ends r q s)) ≡ false
+          → (x < 256) × AllByRecursion (λ b. b < 256) s
       go p (Emit b) h f e = (a.first_byte p x b h, f false e)
       go false Hold h f e = (a.held_byte x h, f true e)
       go true Hold h f e = absurd (a.no_third x h)

@@ -1,6 +1,6 @@
 -- The layers' codings, openings and causes in plain words. Assumes nothing.
 use Rattle.std.specs.Prelude.{◌≡◌, ℕ, ◌+◌, ◌-◌, ◌%◌, ◌<◌, ◌≤◌, Bool, true, false, cond, ◌⊎◌, List, [], ◌∷◌, ◌++◌, map, length, None, Ok, ◌==◌, ◌≢◌, count_ones, slice_index_or}
-use Rattle.std.specs.List.{AllByRecursion as All}
+use Rattle.std.specs.List.{AllByRecursion}
 use Rattle.charset.specs.declared.Reading.TheVariants.{Found}
 use Rattle.charset.specs.Answers.{Reads}
 use Rattle.charset.specs.Meaning.{Meaning, Codes, Opens, Unreadable}
@@ -14,7 +14,7 @@ in_parity b = cond (count_ones b % 2 == 0) b (b + 0x80)
 
 -- s is t with parity
 abbrev pub InParity : List ℕ → List ℕ → Type 0
-InParity t s = All (λ b. b < 0x80) t × (s ≡ map in_parity t)
+InParity t s = AllByRecursion (λ b. b < 0x80) t × (s ≡ map in_parity t)
 
 -- s is t shifted
 abbrev pub Shifts : List ℕ → List ℕ → Type 0
@@ -42,7 +42,7 @@ pub record ParityMeaning (m : Meaning) : Type 0 where
   pub cause_34 : (p rest : List ℕ) (x : ℕ) → Opens (parity m) p → count_ones x % 2 ≡ 1 → (parity m).causes (p ++ x ∷ rest) ≡ own 34
   pub cause_below : (s t rest : List ℕ) → length s ≤ 4 → Unreadable m t → InParity t s → (parity m).causes (s ++ rest) ≡ up (m.causes t)
   -- there is no other cause
-  pub causes_only : (s : List ℕ) → All (λ b. b < 0x100) s → Unreadable (parity m) s → FailsAt (parity m) (λ p x. (count_ones x % 2 ≡ 1) ⊎ ((t : List ℕ) × InParity t (p ++ x ∷ []) × Unreadable m t)) s
+  pub causes_only : (s : List ℕ) → AllByRecursion (λ b. b < 0x100) s → Unreadable (parity m) s → FailsAt (parity m) (λ p x. (count_ones x % 2 ≡ 1) ⊎ ((t : List ℕ) × InParity t (p ++ x ∷ []) × Unreadable m t)) s
 
 pub record ShiftMeaning (m : Meaning) : Type 0 where
   pub codes : (s : List ℕ) (c : ℕ) → Codes (shift m) s c → (t : List ℕ) × Shifts t s × Codes m t c × (length s ≤ 4)

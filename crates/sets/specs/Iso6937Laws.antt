@@ -2,7 +2,7 @@
 use Rattle.std.specs.Prelude.{◌≡◌, ℕ, zero, suc, ◌<◌, ◌≤◌, Bool, true, false, cond, List, [], ◌∷◌, length, take, is_some, Some, None, Option, refl}
 use Rattle.std.proofs.Common.{sym, ◌∙◌, arith}
 use Rattle.std.specs.Option.{option_map}
-use Rattle.std.specs.List.{AllByRecursion as All}
+use Rattle.std.specs.List.{AllByRecursion}
 use Rattle.charset.specs.Meaning.{NoFront, Unreadable, Laws}
 use Rattle.charset.proofs.Front.{alone}
 use Rattle.sets.specs.declared.cause.Cause.TheVariants.{NotInUse, NoPair}
@@ -38,7 +38,7 @@ sized (b ∷ []) c e = (omega arith, omega arith)
 sized (m ∷ l ∷ []) c e = (omega arith, omega arith)
 sized (a ∷ b ∷ d ∷ s) c e = absurd (no_none e)
 
-bytes : (s : List ℕ) (c : ℕ) → iso6937_character s ≡ Some c → All (λ b. b < 256) s
+bytes : (s : List ℕ) (c : ℕ) → iso6937_character s ≡ Some c → AllByRecursion (λ b. b < 256) s
 bytes [] c e = absurd (no_none e)
 bytes (b ∷ []) c e = ((single_at b c e).byte, tt)
 bytes (m ∷ l ∷ []) c e = let h = accented_at m l c e in (h.mark_byte, (h.letter_byte, tt))
@@ -64,7 +64,7 @@ diacritic b e = go (letters_of b) refl e
     go None h f = absurd (no_true f)
     go (Some ps) h f = mark_alone b ps h
 
-opening_bytes : (s : List ℕ) → iso6937_openings s ≡ true → All (λ b. b < 256) s
+opening_bytes : (s : List ℕ) → iso6937_openings s ≡ true → AllByRecursion (λ b. b < 256) s
 opening_bytes [] e = tt
 opening_bytes (b ∷ []) e = ((diacritic b e).0, tt)
 opening_bytes (a ∷ b ∷ s) e = absurd (no_true e)

@@ -2,7 +2,7 @@
 use Rattle.std.specs.Prelude.{◌≡◌, ℕ, zero, suc, ◌<◌, ◌≤◌, true, List, [], ◌∷◌, length, take, Some, None, Option, slice_index, refl}
 use Rattle.std.proofs.Common.{sym, ap, ◌∙◌, arith}
 use Rattle.std.specs.Option.{option_map}
-use Rattle.std.specs.List.{AllByRecursion as All}
+use Rattle.std.specs.List.{AllByRecursion}
 use Rattle.charset.specs.Meaning.{NoFront, Unreadable, Laws}
 use Rattle.charset.proofs.Front.{alone, unreadable_here}
 use Rattle.sets.specs.Columns.{character_at, byte_of, one_to_one}
@@ -28,7 +28,7 @@ module _ (columns : List (List ℕ)) (ok : one_to_one columns ≡ true) where
   sized (b ∷ []) c e = (omega arith, omega arith)
   sized (a ∷ b ∷ s) c e = absurd (no_none e)
 
-  bytes : (s : List ℕ) (c : ℕ) → single_byte_character columns s ≡ Some c → All (λ b. b < 256) s
+  bytes : (s : List ℕ) (c : ℕ) → single_byte_character columns s ≡ Some c → AllByRecursion (λ b. b < 256) s
   bytes [] c e = absurd (no_none e)
   bytes (b ∷ []) c e = ((placed columns ok b c e).byte, tt)
   bytes (a ∷ b ∷ s) c e = absurd (no_none e)

@@ -1,7 +1,7 @@
 -- UTF-8 keeps the laws of a character set. Assumes nothing.
 use Rattle.std.specs.Prelude.{◌≡◌, ℕ, zero, suc, ◌+◌, ◌-◌, ◌*◌, ◌/◌, ◌<◌, ◌≤◌, Bool, true, false, List, [], ◌∷◌, length, take, Some, None, ◌≢◌, nat_lt, refl}
 use Rattle.std.proofs.Common.{sym, ◌∙◌, inl, inr, arith}
-use Rattle.std.specs.List.{AllByRecursion as All}
+use Rattle.std.specs.List.{AllByRecursion}
 use Rattle.std.proofs.lemmas.Bool.{lt-ltb, le-ltb, cases_lt, cases_Bool}
 use Rattle.std.proofs.lemmas.Bool.Decides.{nat_tests}
 use Rattle.charset.specs.Meaning.{NoFront, Laws}
@@ -117,7 +117,7 @@ sized (a ∷ b ∷ c ∷ []) n e = (omega arith, omega arith)
 sized (a ∷ b ∷ c ∷ d ∷ []) n e = (omega arith, omega arith)
 sized (a ∷ b ∷ c ∷ d ∷ x ∷ s) n e = absurd (no_none e)
 
-bytes : (s : List ℕ) (c : ℕ) → utf8_character s ≡ Some c → All (λ b. b < 256) s
+bytes : (s : List ℕ) (c : ℕ) → utf8_character s ≡ Some c → AllByRecursion (λ b. b < 256) s
 bytes [] n e = absurd (no_none e)
 bytes (a ∷ []) n e = let h = (when_some _ _ n e).0 in (grind (arith, nat_tests), tt)
 bytes (a ∷ b ∷ []) n e = let h = (when_some _ _ n e).0 in (grind (arith, nat_tests), (grind (arith, nat_tests), tt))
@@ -138,7 +138,7 @@ opening_sized (a ∷ b ∷ []) o = omega arith
 opening_sized (a ∷ b ∷ c ∷ []) o = omega arith
 opening_sized (a ∷ b ∷ c ∷ d ∷ s) o = absurd (no_true o)
 
-opening_bytes : (s : List ℕ) → utf8_openings s ≡ true → All (λ b. b < 256) s
+opening_bytes : (s : List ℕ) → utf8_openings s ≡ true → AllByRecursion (λ b. b < 256) s
 opening_bytes [] o = tt
 opening_bytes (a ∷ []) o = (grind (arith, nat_tests), tt)
 opening_bytes (a ∷ b ∷ []) o = (grind (arith, nat_tests), (grind (arith, nat_tests), tt))

@@ -1,7 +1,7 @@
 -- One call, with its buffers, as a step of a use. Assumes nothing.
 use Rattle.std.specs.Prelude.{◌≡◌, ℕ, ◌⊎◌, List, [], Ok, Err, Result}
 use Rattle.std.proofs.Common.{inl, inr}
-use Rattle.std.specs.Borrow.{Bor}
+use Rattle.std.specs.Borrow.{Bor, MutBor}
 use Rattle.charset.specs.Meaning.{Meaning}
 use Rattle.answers.specs.declared.Answer.{Answer}
 use Rattle.answers.specs.declared.Answer.TheVariants as answer
@@ -14,7 +14,7 @@ use Rattle.transcript.specs.Uses.{start, offer, close, status, Step}
 
 -- a call as it is seen at the return: its cases in order, as a sum
 abbrev pub Returned : Type 0
-Returned = Unit {0} ⊎ ((Bor (List ℕ) × (Bor (List ℕ) × Unit {0})) ⊎ (Unit {0} ⊎ (Unit {0} ⊎ ⊥)))
+Returned = Unit {0} ⊎ ((Bor (List ℕ) × (MutBor (List ℕ) × Unit {0})) ⊎ (Unit {0} ⊎ (Unit {0} ⊎ ⊥)))
 
 -- what the output of an offer, the second of its buffers, holds at the return
 abbrev pub output_after : Returned → List ℕ

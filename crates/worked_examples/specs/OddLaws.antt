@@ -1,7 +1,7 @@
 -- The odd set keeps the laws, and what it cannot read. Assumes nothing.
 use Rattle.std.specs.Prelude.{◌≡◌, ℕ, zero, suc, ◌<◌, ◌≤◌, true, false, List, [], ◌∷◌, length, take, Some, None, ◌≢◌, slice_index, refl}
 use Rattle.std.proofs.Common.{arith}
-use Rattle.std.specs.List.{AllByRecursion as All}
+use Rattle.std.specs.List.{AllByRecursion}
 use Rattle.std.proofs.lemmas.Bool.Decides.{nat_tests}
 use Rattle.charset.specs.Meaning.{NoFront, Unreadable, Laws}
 use Rattle.charset.proofs.Front.{alone, none_some, unreadable_here}
@@ -25,7 +25,7 @@ sized (a ∷ []) c e = (omega arith, omega arith)
 sized (a ∷ b ∷ []) c e = (omega arith, omega arith)
 sized (a ∷ b ∷ d ∷ s) c e = absurd (none_some e)
 
-bytes : (s : List ℕ) (c : ℕ) → odd_character s ≡ Some c → All (λ b. b < 256) s
+bytes : (s : List ℕ) (c : ℕ) → odd_character s ≡ Some c → AllByRecursion (λ b. b < 256) s
 bytes [] c e = absurd (none_some e)
 bytes (a ∷ []) c e = (grind (arith, nat_tests), tt)
 bytes (a ∷ b ∷ []) c e = (grind (arith, nat_tests), (grind (arith, nat_tests), tt))
@@ -42,7 +42,7 @@ opening_sized [] o = omega arith
 opening_sized (a ∷ []) o = omega arith
 opening_sized (a ∷ b ∷ s) o = absurd (no_true o)
 
-opening_bytes : (s : List ℕ) → odd_openings s ≡ true → All (λ b. b < 256) s
+opening_bytes : (s : List ℕ) → odd_openings s ≡ true → AllByRecursion (λ b. b < 256) s
 opening_bytes [] o = tt
 opening_bytes (a ∷ []) o = (grind (arith, nat_tests), tt)
 opening_bytes (a ∷ b ∷ s) o = absurd (no_true o)

@@ -2,9 +2,9 @@
 #![tactic(auto)]
 
 #[cfg(test)]
-mod layers;
+mod layer_examples;
 mod odd;
 #[cfg(test)]
-mod pages;
+mod page_examples;
 #[cfg(test)]
-mod sets;
+mod set_examples;

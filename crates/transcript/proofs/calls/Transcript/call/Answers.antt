@@ -37,12 +37,12 @@ offered_open : (S T : Meaning) (s t : Snapshot) (i o q p : List ℕ) (a : OfferA
 offered_open S T s t i o q p a r e h f k =
     (a, subst (λ z. OfferedIf (refused z s.taken i o) S T s i o a p t) (sym e) (subst (λ z. OfferedIf (limits s.taken i z) S T s i z a p t) f h), k)
 
-pub returns-in-err-done : goal.returns-in-err-done
-returns-in-err-done g c =
+pub returns-in_err-done-in-Open-Offer-clause-told : goal.returns-in_err-done-in-Open-Offer-clause-told
+returns-in_err-done-in-Open-Offer-clause-told g c =
     let m = c.args.self.now in
     let x = g.S.CharacterSet in let y = g.T.CharacterSet in
     let err = err_from_is_err_and c.from_residual.result c.from_residual.ensures.1 in
-    let was = c.in-err-done.was in
+    let was = c.in_err-done-in-Open-Offer.was in
     record {
       sets = c.feed.ensures.sets;
       told =
@@ -52,16 +52,16 @@ returns-in-err-done g c =
           c.in-Open-Offer.is-0 c.feed.ensures.told (search rules) (err.1 ∙ ap Err err.2 ∙ ap offered (sym was)));
     }
 
-pub returns-in-ok-done : goal.returns-in-ok-done
-returns-in-ok-done g c =
+pub returns-in_ok-done-in-Open-Offer-clause-told : goal.returns-in_ok-done-in-Open-Offer-clause-told
+returns-in_ok-done-in-Open-Offer-clause-told g c =
     let m = c.args.self.now in
     let x = g.S.CharacterSet in let y = g.T.CharacterSet in
-    let was = c.in-ok-done.was in
+    let was = c.in_ok-done-in-Open-Offer.was in
     record {
       sets = c.feed.ensures.sets;
       told =
           rw c.in-Open-Offer.is-1
           (offered_open (set_of x m.source) (set_of y m.target)
-          (snapshot m.progress) (snapshot c.feed.new.self.progress) c.in-Open-Offer.sector.now c.in-Open-Offer.output.now _ c.feed.new.output c.feed.result (Ok (answer.Offered c.in-ok-done.done))
+          (snapshot m.progress) (snapshot c.feed.new.self.progress) c.in-Open-Offer.sector.now c.in-Open-Offer.output.now _ c.feed.new.output c.feed.result (Ok (answer.Offered c.in_ok-done-in-Open-Offer.done))
           c.in-Open-Offer.is-0 c.feed.ensures.told (search rules) (ap offered (sym was)));
     }
