@@ -43,25 +43,17 @@ returns-in_err-done-in-Open-Offer-clause-told g c =
     let x = g.S.CharacterSet in let y = g.T.CharacterSet in
     let err = err_from_is_err_and c.from_residual.result c.from_residual.ensures.1 in
     let was = c.in_err-done-in-Open-Offer.was in
-    record {
-      sets = c.feed.ensures.sets;
-      told =
-          rw c.in-Open-Offer.is-1
-          (offered_open (set_of x m.source) (set_of y m.target)
-          (snapshot m.progress) (snapshot c.feed.new.self.progress) c.in-Open-Offer.sector.now c.in-Open-Offer.output.now _ c.feed.new.output c.feed.result c.from_residual.result
-          c.in-Open-Offer.is-0 c.feed.ensures.told (search rules) (err.1 ∙ ap Err err.2 ∙ ap offered (sym was)));
-    }
+    rw c.in-Open-Offer.is-1
+    (offered_open (set_of x m.source) (set_of y m.target)
+    (snapshot m.progress) (snapshot c.feed.new.self.progress) c.in-Open-Offer.sector.now c.in-Open-Offer.output.now _ c.feed.new.output c.feed.result c.from_residual.result
+    c.in-Open-Offer.is-0 c.feed.ensures.told (search rules) (err.1 ∙ ap Err err.2 ∙ ap offered (sym was)))
 
 pub returns-in_ok-done-in-Open-Offer-clause-told : goal.returns-in_ok-done-in-Open-Offer-clause-told
 returns-in_ok-done-in-Open-Offer-clause-told g c =
     let m = c.args.self.now in
     let x = g.S.CharacterSet in let y = g.T.CharacterSet in
     let was = c.in_ok-done-in-Open-Offer.was in
-    record {
-      sets = c.feed.ensures.sets;
-      told =
-          rw c.in-Open-Offer.is-1
-          (offered_open (set_of x m.source) (set_of y m.target)
-          (snapshot m.progress) (snapshot c.feed.new.self.progress) c.in-Open-Offer.sector.now c.in-Open-Offer.output.now _ c.feed.new.output c.feed.result (Ok (answer.Offered c.in_ok-done-in-Open-Offer.done))
-          c.in-Open-Offer.is-0 c.feed.ensures.told (search rules) (ap offered (sym was)));
-    }
+    rw c.in-Open-Offer.is-1
+    (offered_open (set_of x m.source) (set_of y m.target)
+    (snapshot m.progress) (snapshot c.feed.new.self.progress) c.in-Open-Offer.sector.now c.in-Open-Offer.output.now _ c.feed.new.output c.feed.result (Ok (answer.Offered c.in_ok-done-in-Open-Offer.done))
+    c.in-Open-Offer.is-0 c.feed.ensures.told (search rules) (ap offered (sym was)))
