@@ -18,6 +18,10 @@ LOCAL = re.compile(rf"\blet ({NAME}) [:=]")
 TOKEN = re.compile(rf"\"(?:[^\"\\]|\\.)*\"|{NAME}")
 
 
+# Where the plain respelling would be the name of a case or a type of src/.
+OWN = {"Not-increasing": "IsNotIncreasing", "Page-text": "IsPageText", "Too-long": "IsTooLong", "Too-many": "HasTooMany"}
+
+
 def logic_files():
     for crate in sorted((TOP / "crates").iterdir()):
         for part in ("specs", "proofs"):
@@ -25,6 +29,8 @@ def logic_files():
 
 
 def respelled(name):
+    if name in OWN:
+        return OWN[name]
     parts = name.split("-")
     if name[0].isupper():
         return "".join(part[0].upper() + part[1:] for part in parts)
@@ -48,6 +54,13 @@ def definitions():
                 if "-" in name and within:
                     inner.add(name)
     return found - goals, inner, others
+
+
+def library_words(text):
+    """The library's `AllByRecursion` by its own name: its `All` is another word."""
+    if "AllByRecursion as All" not in text:
+        return text
+    return re.sub(r"(?<![\w.'-])All(?![\w'-])", "AllByRecursion", text.replace("AllByRecursion as All", "AllByRecursion"))
 
 
 def main():
@@ -78,7 +91,7 @@ def main():
         return "\n".join(lines)
 
     for path in logic_files():
-        path.write_text(in_code(path.read_text(), "-- "))
+        path.write_text(in_code(library_words(path.read_text()), "-- "))
     for path in sorted((TOP / "crates").glob("*/src/**/*.rt")):
         path.write_text(in_code(path.read_text(), "// "))
     for path in [TOP / "README.md", *sorted((TOP / "docs").glob("*.md"))]:

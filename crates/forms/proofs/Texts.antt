@@ -7,7 +7,7 @@ use Rattle.transcription.specs.declared.Failure.{Failure}
 use Rattle.transcription.specs.declared.Failure.TheVariants.{NoMemory, TooLong}
 use Rattle.transcription.specs.declared.Transcription.{Transcription}
 use Rattle.transcription.specs.Carried.{fault_in, offset_in, CarriedOut}
-use Rattle.transcription.specs.Failures.{TooLong}
+use Rattle.transcription.specs.Failures.{IsTooLong}
 use Rattle.transcription.specs.Transcribed.{TheTranscript}
 use Rattle.forms.specs.Texts.{TextOf}
 
@@ -16,7 +16,7 @@ pub text_of : (m : Meaning) (bytes : List ℕ) (r : Result Transcription Failure
 text_of m bytes (Ok p) t u = record { transcript = t; carried_out = u }
 text_of m bytes (Err e) t u = tt
 
-pub only_too_long : (bytes : List ℕ) (r : Result Transcription Failure) → TooLong bytes r → r ≡ Err TooLong → 4294967296 < length bytes
+pub only_too_long : (bytes : List ℕ) (r : Result Transcription Failure) → IsTooLong bytes r → r ≡ Err TooLong → 4294967296 < length bytes
 only_too_long bytes (Ok p) h e = absurd (let z : ◌≡◌ {A = ℕ} 0 1 = cc in omega arith)
 only_too_long bytes (Err NoMemory) h e = absurd (let z : ◌≡◌ {A = ℕ} 0 1 = cc in omega arith)
 only_too_long bytes (Err TooLong) h e = h

@@ -42,8 +42,8 @@ page_form (Text f part at) = form_number f
 page_form (Picture part at) = 0
 
 -- a page of text is transcribed by its form, unless it is longer than a source may be, and so than any roll; a picture has no text
-abbrev pub PageText : ℕ → Page → (text : List ℕ) → (characters : ℕ) → Result (Unit {0}) RollFault → Type 0
-PageText n (Text f part at) text characters r =
+abbrev pub IsPageText : ℕ → Page → (text : List ℕ) → (characters : ℕ) → Result (Unit {0}) RollFault → Type 0
+IsPageText n (Text f part at) text characters r =
     ((o : Outcome) × TextIn (form_set f) part.now text characters o × (r ≡ on_page n o))
     ⊎ ((4294967296 < length part.now) × (text ≡ []) × (characters ≡ 0) × (r ≡ Err WrongSize))
-PageText n (Picture part at) text characters r = (text ≡ []) × (characters ≡ 0) × (r ≡ Ok tt)
+IsPageText n (Picture part at) text characters r = (text ≡ []) × (characters ≡ 0) × (r ≡ Ok tt)

@@ -9,7 +9,7 @@ ghost use Rattle.transcription.specs.Carried.{fault_in};
 ghost use Rattle.forms.specs.Examples.{WorkedExamples};
 ghost use Rattle.forms.specs.Forms.{form_set};
 ghost use Rattle.forms.specs.PageControls.{page_controls};
-ghost use Rattle.forms.specs.Texts.{TextOf, AlwaysWritten, numbered, on_page, page_form, PageText};
+ghost use Rattle.forms.specs.Texts.{TextOf, AlwaysWritten, numbered, on_page, page_form, IsPageText};
 
 mod stacks;
 
@@ -90,7 +90,7 @@ fn on_page(page: u32, outcome: Result<(), FaultAt>) -> Result<(), RollFault>
 // hold, is refused as a roll of that size is.
 pub fn page_text(heap: Global, number: u32, page: &Page) -> Result<PageText, AllocError>
     ensures form { IfOk result (λ t. t.form ≡ page_form page.now) }
-    ensures text { IfOk result (λ t. PageText number page.now t.text.items t.characters t.outcome) }
+    ensures text { IfOk result (λ t. IsPageText number page.now t.text.items t.characters t.outcome) }
 {
     match page {
         Page::Text { form, part, .. } => match form_text(heap, *form, part) {

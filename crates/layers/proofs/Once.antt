@@ -4,7 +4,7 @@ use Rattle.std.proofs.lemmas.Bool.{cases_order, both_ways}
 use Rattle.charset.specs.Meaning.{Codings}
 use Rattle.layers.specs.CharacterList.{rises_at, on_list, Rising, Complete}
 use Rattle.layers.specs.Refusals.{Told}
-use Rattle.layers.specs.Filled.{FirstNotRising, FirstMissing, FirstUncoded, NotIncreasing, Lacking, WithoutCoding, Acceptable, Ground, OneAnswer}
+use Rattle.layers.specs.Filled.{FirstNotRising, FirstMissing, FirstUncoded, IsNotIncreasing, Lacking, WithoutCoding, Acceptable, Ground, OneAnswer}
 
 -- there is one smallest number only
 smallest : (P : ℕ → Type 0) (i j : ℕ) → P i → P j → ((k : ℕ) → k < i → P k → ⊥) → ((k : ℕ) → k < j → P k → ⊥) → i ≡ j
@@ -33,7 +33,7 @@ module _ (k : Codings) (xs : List ℕ) where
   ]
 
   -- what the grounds that come later have in common
-  short : (t : Told) → NotIncreasing xs t ⊎ (Lacking xs t ⊎ WithoutCoding k xs t) → length xs ≤ 512
+  short : (t : Told) → IsNotIncreasing xs t ⊎ (Lacking xs t ⊎ WithoutCoding k xs t) → length xs ≤ 512
   short t (inl a) = a.2
   short t (inr (inl b)) = b.2
   short t (inr (inr c)) = c.2.0
@@ -54,7 +54,7 @@ module _ (k : Codings) (xs : List ℕ) where
   one_of_two t u (inr a) (inl b) = absurd (never_missing b.0 b.4 a.2.2)
   one_of_two t u (inr a) (inr b) = let e = uncoded_once a.0 b.0 a.3 b.3 in a.1 ∙ rw e (sym b.1)
 
-  one_of_three : (t u : Told) → NotIncreasing xs t ⊎ (Lacking xs t ⊎ WithoutCoding k xs t) → NotIncreasing xs u ⊎ (Lacking xs u ⊎ WithoutCoding k xs u) → t ≡ u
+  one_of_three : (t u : Told) → IsNotIncreasing xs t ⊎ (Lacking xs t ⊎ WithoutCoding k xs t) → IsNotIncreasing xs u ⊎ (Lacking xs u ⊎ WithoutCoding k xs u) → t ≡ u
   one_of_three t u (inl a) (inl b) = let e = falls_once a.0 b.0 a.3 b.3 in a.1 ∙ rw e (sym b.1)
   one_of_three t u (inl a) (inr b) = absurd (never_falls a.0 a.3 (rising u b))
   one_of_three t u (inr a) (inl b) = absurd (never_falls b.0 b.3 (rising t a))

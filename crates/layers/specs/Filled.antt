@@ -33,11 +33,11 @@ pub record Acceptable (k : Codings) (xs : List ℕ) : Type 0 where
   pub coded : AllCoded k xs
 
 -- what each refusal says of the numbers, by its number and value
-abbrev pub TooMany : List ℕ → Told → Type 0
-TooMany xs t = (t ≡ record { number = 10; value = None }) × (512 < length xs)
+abbrev pub HasTooMany : List ℕ → Told → Type 0
+HasTooMany xs t = (t ≡ record { number = 10; value = None }) × (512 < length xs)
 
-abbrev pub NotIncreasing : List ℕ → Told → Type 0
-NotIncreasing xs t = (i : ℕ) × (t ≡ record { number = 11; value = Some i }) × (length xs ≤ 512) × FirstNotRising xs i
+abbrev pub IsNotIncreasing : List ℕ → Told → Type 0
+IsNotIncreasing xs t = (i : ℕ) × (t ≡ record { number = 11; value = Some i }) × (length xs ≤ 512) × FirstNotRising xs i
 
 abbrev pub Lacking : List ℕ → Told → Type 0
 Lacking xs t = (c : ℕ) × (t ≡ record { number = 12; value = Some c }) × (length xs ≤ 512) × Rising xs × FirstMissing xs c
@@ -47,7 +47,7 @@ WithoutCoding k xs t = (c : ℕ) × (t ≡ record { number = 13; value = Some c 
 
 -- the ground on which numbers are refused
 abbrev pub Ground : Codings → List ℕ → Told → Type 0
-Ground k xs t = TooMany xs t ⊎ (NotIncreasing xs t ⊎ (Lacking xs t ⊎ WithoutCoding k xs t))
+Ground k xs t = HasTooMany xs t ⊎ (IsNotIncreasing xs t ⊎ (Lacking xs t ⊎ WithoutCoding k xs t))
 
 -- only numbers that fit are refused for want of memory
 abbrev pub WithoutMemory : Codings → List ℕ → Told → Type 0

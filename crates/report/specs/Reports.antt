@@ -6,7 +6,7 @@ use Rattle.pages.specs.Told.{told}
 use Rattle.roll.specs.Format.{page_count}
 use Rattle.roll.specs.Opened.{Refuses, Accepted}
 use Rattle.roll.specs.Pages.{PartAt}
-use Rattle.forms.specs.Texts.{page_form, PageText}
+use Rattle.forms.specs.Texts.{page_form, IsPageText}
 use Rattle.report.specs.Lines.{block_of}
 
 -- the text of a page by its form, and its line, each with a line feed behind
@@ -14,7 +14,7 @@ pub record PageBlock (n : ℕ) (page : Page) (block : List ℕ) : Type 0 where
   pub text : List ℕ
   pub characters : ℕ
   pub outcome : Result (Unit {0}) RollFault
-  pub transcribed : PageText n page text characters outcome
+  pub transcribed : IsPageText n page text characters outcome
   pub written : block ≡ block_of text n (page_form page) characters outcome
 
 -- the block of the page at a place, from 0, of the roll b

@@ -4,10 +4,10 @@ use Rattle.transcription.specs.declared.Failure.{Failure}
 use Rattle.transcription.specs.declared.Failure.TheVariants.{NoMemory, TooLong}
 
 -- it is refused as too long exactly when it is
-abbrev pub TooLong : {X : Type 0} → List ℕ → Result X Failure → Type 0
-TooLong bytes (Ok p) = length bytes ≤ 4294967296
-TooLong bytes (Err NoMemory) = length bytes ≤ 4294967296
-TooLong bytes (Err TooLong) = 4294967296 < length bytes
+abbrev pub IsTooLong : {X : Type 0} → List ℕ → Result X Failure → Type 0
+IsTooLong bytes (Ok p) = length bytes ≤ 4294967296
+IsTooLong bytes (Err NoMemory) = length bytes ≤ 4294967296
+IsTooLong bytes (Err TooLong) = 4294967296 < length bytes
 
 abbrev pub message : Failure → List ℕ
 message NoMemory = codes "out of memory"

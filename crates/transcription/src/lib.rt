@@ -7,7 +7,7 @@ ghost use Rattle.answers.specs.declared.FaultAt.{FaultAt as Placed};
 ghost use Rattle.answers.specs.declared.Refusal.TheVariants.{Faulted};
 ghost use Rattle.law.specs.Stacks.{TheLaw};
 ghost use Rattle.transcription.specs.declared.Failure.TheVariants.{NoMemory};
-ghost use Rattle.transcription.specs.Failures.{TooLong, message};
+ghost use Rattle.transcription.specs.Failures.{IsTooLong, message};
 ghost use Rattle.transcription.specs.Carried.{fault_in, offset_in, closing, AcceptedOrFaulted, CarriedOut};
 ghost use Rattle.transcription.specs.Transcribed.{TheTranscript};
 
@@ -95,7 +95,7 @@ pub fn transcribe<S: CharacterSet + Drop, T: CharacterSet + Drop>(
 ) -> Result<Transcription, Failure>
     ensures transcript { IfOk result (λ p. TheTranscript (set_of S.CharacterSet source) (set_of T.CharacterSet target) bytes.now p.text.items p.characters (offset_in bytes.now p.outcome) (fault_in p.outcome)) }
     ensures carried_out { IfOk result (λ p. CarriedOut (set_of S.CharacterSet source) (set_of T.CharacterSet target) bytes.now p.text.items p.characters p.outcome) }
-    ensures too_long { TooLong bytes.now result }
+    ensures too_long { IsTooLong bytes.now result }
     ensures the_law { TheLaw }
 {
     if bytes.len() as u64 > LONGEST_SOURCE {

@@ -19,45 +19,43 @@ use Rattle.forms.proofs.form_text.Goals as goal
 by_form : {form f : Form} (bytes : List ℕ) (r : Result Transcription Failure) → form ≡ f → IfOk r (λ p. TextOf (form_set f) bytes p) → IfOk r (λ p. TextOf (form_set form) bytes p)
 by_form bytes r e h = at_set form_set bytes r (sym e) h
 
-pub returns-in-err-list : goal.returns-in-err-list
-returns-in-err-list c =
-    let p = err_from_is_err_and c.from-residual.result c.from-residual.ensures.1 in
-    rw (p.1, p.2) (record { text = tt; always_written = tt; too_long = λ e. absurd (let z : ◌≡◌ {A = ℕ} 0 1 = cc in omega arith); worked_examples = worked_examples })
+pub returns-in_err-list-in-Basic-clause-worked_examples : goal.returns-in_err-list-in-Basic-clause-worked_examples
+returns-in_err-list-in-Basic-clause-worked_examples c = worked_examples
 
 pub returns-in-EightBit : goal.returns-in-EightBit
 returns-in-EightBit c =
-    let r = c.with-page-controls.result in
+    let r = c.with_page_controls.result in
     let bytes = c.args.bytes.now in
-    let text = by_form bytes r c.in-EightBit.is c.with-page-controls.ensures.text in
-    record { text = text; too_long = c.with-page-controls.ensures.too_long; always_written = always_written c.args.form bytes r text; worked_examples = worked_examples }
+    let text = by_form bytes r c.in-EightBit.is c.with_page_controls.ensures.text in
+    record { text = text; too_long = c.with_page_controls.ensures.too_long; always_written = always_written c.args.form bytes r text; worked_examples = worked_examples }
 
 pub returns-in-SevenBit : goal.returns-in-SevenBit
 returns-in-SevenBit c =
-    let r = c.with-page-controls-in-SevenBit.result in
+    let r = c.with_page_controls-in-SevenBit.result in
     let bytes = c.args.bytes.now in
-    let text = by_form bytes r c.in-SevenBit.is c.with-page-controls-in-SevenBit.ensures.text in
-    record { text = text; too_long = c.with-page-controls-in-SevenBit.ensures.too_long; always_written = always_written c.args.form bytes r text; worked_examples = worked_examples }
+    let text = by_form bytes r c.in-SevenBit.is c.with_page_controls-in-SevenBit.ensures.text in
+    record { text = text; too_long = c.with_page_controls-in-SevenBit.ensures.too_long; always_written = always_written c.args.form bytes r text; worked_examples = worked_examples }
 
 pub returns-in-SevenBitParity : goal.returns-in-SevenBitParity
 returns-in-SevenBitParity c =
     let r = c.transcribe.result in
     let bytes = c.args.bytes.now in
-    let text = by_form bytes r c.in-SevenBitParity.is (at_set (λ (chosen : List Bool). parity (controls chosen (shift iso6937))) bytes r (ap (λ s. s.chosen) c.with-parity-stack.ensures.on ∙ c.with-controls.ensures.on.1) (text_of (parity (controls c.with-parity-stack.result.below.chosen (shift iso6937))) bytes r c.transcribe.ensures.transcript c.transcribe.ensures.carried_out)) in
+    let text = by_form bytes r c.in-SevenBitParity.is (at_set (λ (chosen : List Bool). parity (controls chosen (shift iso6937))) bytes r (ap (λ s. s.chosen) c.with_parity-stack.ensures.on ∙ c.with_controls.ensures.on.1) (text_of (parity (controls c.with_parity-stack.result.below.chosen (shift iso6937))) bytes r c.transcribe.ensures.transcript c.transcribe.ensures.carried_out)) in
     record { text = text; too_long = only_too_long bytes r c.transcribe.ensures.too_long; always_written = always_written c.args.form bytes r text; worked_examples = worked_examples }
 
 pub returns-in-Latin10 : goal.returns-in-Latin10
 returns-in-Latin10 c =
-    let r = c.with-page-controls-in-Latin10.result in
+    let r = c.with_page_controls-in-Latin10.result in
     let bytes = c.args.bytes.now in
-    let text = by_form bytes r c.in-Latin10.is (at_set (λ t. controls page_controls (single_byte t)) bytes r c.iso8859-16.ensures c.with-page-controls-in-Latin10.ensures.text) in
-    record { text = text; too_long = c.with-page-controls-in-Latin10.ensures.too_long; always_written = always_written c.args.form bytes r text; worked_examples = worked_examples }
+    let text = by_form bytes r c.in-Latin10.is (at_set (λ t. controls page_controls (single_byte t)) bytes r c.iso8859_16.ensures c.with_page_controls-in-Latin10.ensures.text) in
+    record { text = text; too_long = c.with_page_controls-in-Latin10.ensures.too_long; always_written = always_written c.args.form bytes r text; worked_examples = worked_examples }
 
 pub returns-in-Sami : goal.returns-in-Sami
 returns-in-Sami c =
-    let r = c.with-page-controls-in-Sami.result in
+    let r = c.with_page_controls-in-Sami.result in
     let bytes = c.args.bytes.now in
-    let text = by_form bytes r c.in-Sami.is (at_set (λ t. controls page_controls (single_byte t)) bytes r c.sami.ensures c.with-page-controls-in-Sami.ensures.text) in
-    record { text = text; too_long = c.with-page-controls-in-Sami.ensures.too_long; always_written = always_written c.args.form bytes r text; worked_examples = worked_examples }
+    let text = by_form bytes r c.in-Sami.is (at_set (λ t. controls page_controls (single_byte t)) bytes r c.sami.ensures c.with_page_controls-in-Sami.ensures.text) in
+    record { text = text; too_long = c.with_page_controls-in-Sami.ensures.too_long; always_written = always_written c.args.form bytes r text; worked_examples = worked_examples }
 
 pub returns-in-Unicode : goal.returns-in-Unicode
 returns-in-Unicode c =
@@ -66,9 +64,9 @@ returns-in-Unicode c =
     let text = by_form bytes r c.in-Unicode.is (text_of utf8 bytes r c.transcribe-in-Unicode.ensures.transcript c.transcribe-in-Unicode.ensures.carried_out) in
     record { text = text; too_long = only_too_long bytes r c.transcribe-in-Unicode.ensures.too_long; always_written = always_written c.args.form bytes r text; worked_examples = worked_examples }
 
-pub returns-in-ok-list : goal.returns-in-ok-list
-returns-in-ok-list c =
-    let r = c.with-page-controls-in-Basic.result in
+pub returns-in_ok-list-in-Basic : goal.returns-in_ok-list-in-Basic
+returns-in_ok-list-in-Basic c =
+    let r = c.with_page_controls-in-Basic.result in
     let bytes = c.args.bytes.now in
-    let text = by_form bytes r c.in-Basic.is (at_set (λ ds. controls page_controls (sub ds iso6937)) bytes r (c.with-list.ensures.on.1 ∙ c.in-ok-list.ensures) c.with-page-controls-in-Basic.ensures.text) in
-    record { text = text; too_long = c.with-page-controls-in-Basic.ensures.too_long; always_written = always_written c.args.form bytes r text; worked_examples = worked_examples }
+    let text = by_form bytes r c.in-Basic.is (at_set (λ ds. controls page_controls (sub ds iso6937)) bytes r (c.with_list.ensures.on.1 ∙ c.in_ok-list-in-Basic.ensures) c.with_page_controls-in-Basic.ensures.text) in
+    record { text = text; too_long = c.with_page_controls-in-Basic.ensures.too_long; always_written = always_written c.args.form bytes r text; worked_examples = worked_examples }

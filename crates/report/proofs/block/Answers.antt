@@ -1,12 +1,12 @@
 use Rattle.std.proofs.Common.{◌≡◌, ℕ, List, [], ◌∷◌, ◌++◌, vec_items, Result, refl, ap, ◌∙◌, append_assoc, rules}
 use Rattle.pages.specs.declared.fault.RollFault.{RollFault}
 use Rattle.pages.specs.declared.page.Page.{Page}
-use Rattle.forms.specs.Texts.{page_form, PageText}
+use Rattle.forms.specs.Texts.{page_form, IsPageText}
 use Rattle.report.specs.Lines.{line_of}
 use Rattle.report.specs.Reports.{PageBlock}
 use Rattle.report.proofs.block.Goals as goal
 
-below : (n : ℕ) (page : Page) (text line a b out : List ℕ) (form characters : ℕ) (r : Result (Unit {0}) RollFault) → form ≡ page_form page → PageText n page text characters r
+below : (n : ℕ) (page : Page) (text line a b out : List ℕ) (form characters : ℕ) (r : Result (Unit {0}) RollFault) → form ≡ page_form page → IsPageText n page text characters r
     → line ≡ line_of n form characters r → a ≡ text ++ 0x0a ∷ [] → b ≡ a ++ line → out ≡ b ++ 0x0a ∷ [] → PageBlock n page out
 below n page text line a b out form characters r f t l e g h = record { text = text; characters = characters; outcome = r; transcribed = t; written = h ∙ rw (g, e, l, f, append_assoc, append_assoc) refl }
 

@@ -19,16 +19,14 @@ comes : {A B : Type 0} (f : A → Meaning) (h : B → Meaning) {x x' : A} {y y' 
 comes f h l k bytes text at end s t out after r p q along small low e room st =
     next_sector (f _) (h _) l k bytes text at end s t out after r along small low e room (subst₂ (λ x y. Step (f x) (h y) s (offer (take (end - at) (drop at bytes)) out r after) t) p q st)
 
-pub returns-then-bytes-gt-LONGEST-SOURCE : goal.returns-then-bytes-gt-LONGEST-SOURCE
-returns-then-bytes-gt-LONGEST-SOURCE g c = record { transcript = tt; carried_out = tt; too_long = c.if-bytes-gt-LONGEST-SOURCE.true; the_law = the_law }
+pub returns-then-bytes-gt-LONGEST_SOURCE : goal.returns-then-bytes-gt-LONGEST_SOURCE
+returns-then-bytes-gt-LONGEST_SOURCE g c = record { transcript = tt; carried_out = tt; too_long = c.if-bytes-gt-LONGEST_SOURCE.true; the_law = the_law }
 
 pub sectors-init : goal.sectors-init
 sectors-init g c = (refl, refl, refl, rw c.new-text.ensures.items (along_none _ _ _ _ c.new-transcript.ensures.starts))
 
-pub returns-in-err-extend-from-slice : goal.returns-in-err-extend-from-slice
-returns-in-err-extend-from-slice g c =
-    let p = err_from_is_err_and c.from-residual.result c.from-residual.ensures.1 in
-    rw (p.1, p.2) (record { transcript = tt; carried_out = tt; too_long = c.if-bytes-gt-LONGEST-SOURCE.false; the_law = the_law })
+pub returns-in_err-extend_from_slice-in-Ok-clause-the_law : goal.returns-in_err-extend_from_slice-in-Ok-clause-the_law
+returns-in_err-extend_from_slice-in-Ok-clause-the_law g c = the_law
 
 pub sectors-preserved : goal.sectors-preserved
 sectors-preserved g c =
@@ -38,24 +36,22 @@ sectors-preserved g c =
     let sets = c.offer.ensures.sets in
     let w = comes (λ x. set_of m x) (λ y. set_of n y) (g.met.S.CharacterSet.lawful x) (g.met.T.CharacterSet.lawful y)
     c.args.bytes.now (vec_items c.sectors.text) c.sectors.at c.min-end.result (snapshot c.sectors.transcript.progress) (snapshot c.offer.new.self.progress) c.sectors.output c.offer.new.output
-    (Ok c.in-Ok.done) i.0 i.1 i.3 c.if-bytes-gt-LONGEST-SOURCE.false c.sectors-test.true c.min-end.ensures i.2 c.in-Ok.ensures.told in
-    let longer : vec_items c.extend-from-slice.new.self ≡ vec_items c.sectors.text ++ take c.in-Ok.done.written c.offer.new.output = search rules in
+    (Ok c.in-Ok.done) i.0 i.1 i.3 c.if-bytes-gt-LONGEST_SOURCE.false c.sectors-test.true c.min-end.ensures i.2 c.in-Ok.ensures.told in
+    let longer : vec_items c.extend_from_slice.new.self ≡ vec_items c.sectors.text ++ take c.in-Ok.done.written c.offer.new.output = search rules in
     (sets.0 ∙ i.0, sets.1 ∙ i.1, search rules, rw longer w.0)
 
-pub fault-of-fault-requires : goal.fault-of-fault-requires
-fault-of-fault-requires g c =
+pub fault_of-fault-requires : goal.fault_of-fault-requires
+fault_of-fault-requires g c =
     let m = g.S.CharacterSet in let n = g.T.CharacterSet in
     let x = c.new-transcript.result.source in let y = c.new-transcript.result.target in
     let i = c.sectors.invariant in
     let w = comes (λ x. set_of m x) (λ y. set_of n y) (g.met.S.CharacterSet.lawful x) (g.met.T.CharacterSet.lawful y)
     c.args.bytes.now (vec_items c.sectors.text) c.sectors.at c.min-end.result (snapshot c.sectors.transcript.progress) (snapshot c.offer.new.self.progress) c.sectors.output c.offer.new.output
-    (Err c.in-Err.refusal) i.0 i.1 i.3 c.if-bytes-gt-LONGEST-SOURCE.false c.sectors-test.true c.min-end.ensures i.2 c.in-Err.ensures.told in
+    (Err c.in-Err.refusal) i.0 i.1 i.3 c.if-bytes-gt-LONGEST_SOURCE.false c.sectors-test.true c.min-end.ensures i.2 c.in-Err.ensures.told in
     (w.0, w.1)
 
-pub returns-in-err-extend-from-slice-2 : goal.returns-in-err-extend-from-slice-2
-returns-in-err-extend-from-slice-2 g c =
-    let p = err_from_is_err_and c.from-residual-in-err-extend-from-slice-2.result c.from-residual-in-err-extend-from-slice-2.ensures.1 in
-    rw (p.1, p.2) (record { transcript = tt; carried_out = tt; too_long = c.if-bytes-gt-LONGEST-SOURCE.false; the_law = the_law })
+pub returns-in_err-extend_from_slice-in-Err-clause-the_law : goal.returns-in_err-extend_from_slice-in-Err-clause-the_law
+returns-in_err-extend_from_slice-in-Err-clause-the_law g c = the_law
 
 -- what is promised, at the sets that were passed
 promised : {A B : Type 0} (f : A → Meaning) (h : B → Meaning) {x x' : A} {y y' : B} (bytes text : List ℕ) (count : ℕ) (o : Outcome) → x ≡ x' → y ≡ y' → Promised (f x) (h y) bytes text count o → Promised (f x') (h y') bytes text count o
@@ -68,16 +64,16 @@ returns-in-Err g c =
     let i = c.sectors.invariant in
     let w = comes (λ x. set_of m x) (λ y. set_of n y) (g.met.S.CharacterSet.lawful x) (g.met.T.CharacterSet.lawful y)
     c.args.bytes.now (vec_items c.sectors.text) c.sectors.at c.min-end.result (snapshot c.sectors.transcript.progress) (snapshot c.offer.new.self.progress) c.sectors.output c.offer.new.output
-    (Err c.in-Err.refusal) i.0 i.1 i.3 c.if-bytes-gt-LONGEST-SOURCE.false c.sectors-test.true c.min-end.ensures i.2 c.in-Err.ensures.told in
+    (Err c.in-Err.refusal) i.0 i.1 i.3 c.if-bytes-gt-LONGEST_SOURCE.false c.sectors-test.true c.min-end.ensures i.2 c.in-Err.ensures.told in
     let made = c.new-transcript.ensures.sets in
-    let f = c.fault-of-fault.result in
-    let same : w.0 ≡ f = (let a = w.1 in let b = c.fault-of-fault.ensures in cc) in
-    let longer : vec_items c.extend-from-slice-in-Err.new.self ≡ vec_items c.sectors.text ++ take f.done.written c.offer.new.output = search rules in
-    let stopped : Stopped (set_of m x) (set_of n y) c.args.bytes.now (vec_items c.extend-from-slice-in-Err.new.self) f (snapshot c.offer.new.self.progress) =
+    let f = c.fault_of-fault.result in
+    let same : w.0 ≡ f = (let a = w.1 in let b = c.fault_of-fault.ensures in cc) in
+    let longer : vec_items c.extend_from_slice-in-Err.new.self ≡ vec_items c.sectors.text ++ take f.done.written c.offer.new.output = search rules in
+    let stopped : Stopped (set_of m x) (set_of n y) c.args.bytes.now (vec_items c.extend_from_slice-in-Err.new.self) f (snapshot c.offer.new.self.progress) =
     rw longer (subst (λ z. Stopped (set_of m x) (set_of n y) c.args.bytes.now (vec_items c.sectors.text ++ take z.done.written c.offer.new.output) z (snapshot c.offer.new.self.progress)) same w.3) in
-    let all = promised (λ x. set_of m x) (λ y. set_of n y) c.args.bytes.now (vec_items c.extend-from-slice-in-Err.new.self) c.status.result.characters (Err f) made.0 made.1
-    (after_fault (set_of m x) (set_of n y) (g.met.S.CharacterSet.lawful x) c.args.bytes.now (vec_items c.extend-from-slice-in-Err.new.self) f (snapshot c.offer.new.self.progress) c.status.result stopped c.status.ensures) in
-    record { transcript = all.0; carried_out = all.1; too_long = c.if-bytes-gt-LONGEST-SOURCE.false; the_law = the_law }
+    let all = promised (λ x. set_of m x) (λ y. set_of n y) c.args.bytes.now (vec_items c.extend_from_slice-in-Err.new.self) c.status.result.characters (Err f) made.0 made.1
+    (after_fault (set_of m x) (set_of n y) (g.met.S.CharacterSet.lawful x) c.args.bytes.now (vec_items c.extend_from_slice-in-Err.new.self) f (snapshot c.offer.new.self.progress) c.status.result stopped c.status.ensures) in
+    record { transcript = all.0; carried_out = all.1; too_long = c.if-bytes-gt-LONGEST_SOURCE.false; the_law = the_law }
 
 pub returns : goal.returns
 returns g c =
@@ -87,7 +83,7 @@ returns g c =
     let made = c.new-transcript.ensures.sets in
     let at_sets : Step (set_of m x) (set_of n y) (snapshot c.sectors.transcript.progress) (close c.close.result) (snapshot c.close.new.self.progress) =
     subst₂ (λ x y. Step (set_of m x) (set_of n y) (snapshot c.sectors.transcript.progress) (close c.close.result) (snapshot c.close.new.self.progress)) i.0 i.1 c.close.ensures.told in
-    let all = promised (λ x. set_of m x) (λ y. set_of n y) c.args.bytes.now (vec_items c.sectors.text) c.status-2.result.characters c.outcome-of-outcome.result made.0 made.1
+    let all = promised (λ x. set_of m x) (λ y. set_of n y) c.args.bytes.now (vec_items c.sectors.text) c.status-2.result.characters c.outcome_of-outcome.result made.0 made.1
     (after_closing (set_of m x) (set_of n y) (g.met.S.CharacterSet.lawful x) c.args.bytes.now (vec_items c.sectors.text) c.sectors.at (snapshot c.sectors.transcript.progress) i.3 c.sectors-test.false
-    (snapshot c.close.new.self.progress) c.close.result c.outcome-of-outcome.result c.status-2.result at_sets c.outcome-of-outcome.ensures c.status-2.ensures) in
-    record { transcript = all.0; carried_out = all.1; too_long = c.if-bytes-gt-LONGEST-SOURCE.false; the_law = the_law }
+    (snapshot c.close.new.self.progress) c.close.result c.outcome_of-outcome.result c.status-2.result at_sets c.outcome_of-outcome.ensures c.status-2.ensures) in
+    record { transcript = all.0; carried_out = all.1; too_long = c.if-bytes-gt-LONGEST_SOURCE.false; the_law = the_law }
