@@ -3,21 +3,27 @@ use packing::{Builder, PackRefusal};
 use pages::RollFault;
 use report::report;
 use roll::Roll;
-use std::test::*;
+use std::process::Abort;
+use std::test::Fail;
 
-fn writes(rt: &HostRuntime, input: &[u8], output: &[u8]) -> Result<(), Fail> {
+fn writes(rt: &(impl Abort + AllocGlobal), input: &[u8], output: &[u8]) -> Result<(), Fail> {
     let out = report(rt.alloc(), input)?;
-    assert!(out.as_slice() == output);
+    assert!(rt; out.as_slice() == output);
     Ok(())
 }
 
 // The roll of one page.
-fn packed(rt: &HostRuntime, form: u8, page: &[u8]) -> Result<Vec<u8>, Fail> {
+fn packed(rt: &(impl Abort + AllocGlobal), form: u8, page: &[u8]) -> Result<Vec<u8>, Fail> {
     let builder = Builder::new(rt.alloc()).with_page(form, page)?;
     Ok(builder.finish()?)
 }
 
-fn shows(rt: &HostRuntime, form: u8, page: &[u8], output: &[u8]) -> Result<(), Fail> {
+fn shows(
+    rt: &(impl Abort + AllocGlobal),
+    form: u8,
+    page: &[u8],
+    output: &[u8],
+) -> Result<(), Fail> {
     let roll = packed(rt, form, page)?;
     writes(rt, &roll, output)
 }
@@ -63,7 +69,7 @@ fn eight_forms(rt: HostRuntime) -> Result<(), Fail> {
     let out = report(rt.alloc(), &roll)?;
     let expected =
         b"\n1 0 0 ok\n\xC3\xA9\n2 1 1 ok\n\xC3\xA9\n3 2 1 ok\n\xC3\xA9\n4 3 1 ok\n\xC3\xA9\n5 4 1 ok\n\xC3\xA9\n6 5 1 ok\n\xC3\xA9\n7 6 1 ok\ne\n8 7 1 ok\n";
-    assert!(rt; out.as_slice() == expected);
+    assert!(rt; out.as_slice() == expected.as_slice());
     Ok(())
 }
 

@@ -12,9 +12,9 @@ below n page text line a b out form characters r f t l e g h = record { text = t
 
 pub returns : goal.returns
 returns c =
-    let p = c.in-ok-read.read in
+    let p = c.in_ok-read.read in
     let a : vec_items c.push.new.self ≡ vec_items p.text ++ 0x0a ∷ [] = search rules in
-    let b : vec_items c.extend-from-slice.new.self ≡ vec_items c.push.new.self ++ c.as-bytes.result.now = search rules in
-    let out : vec_items c.push-2.new.self ≡ vec_items c.extend-from-slice.new.self ++ 0x0a ∷ [] = search rules in
-    below c.args.number c.args.page.now (vec_items p.text) c.as-bytes.result.now _ _ _ p.form p.characters p.outcome c.in-ok-read.ensures.form c.in-ok-read.ensures.text
-    (c.as-bytes.ensures.value ∙ c.in-ok-line.ensures) a b out
+    let b : vec_items c.extend_from_slice.new.self ≡ vec_items c.push.new.self ++ c.as_bytes.result.now = search rules in
+    let out : vec_items c.push-2.new.self ≡ vec_items c.extend_from_slice.new.self ++ 0x0a ∷ [] = search rules in
+    below c.args.number c.args.page.now (vec_items p.text) c.as_bytes.result.now _ _ _ p.form p.characters p.outcome c.in_ok-read.ensures.form c.in_ok-read.ensures.text
+    (c.as_bytes.ensures.value ∙ c.in_ok-line.ensures) a b out

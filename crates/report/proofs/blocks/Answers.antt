@@ -1,5 +1,4 @@
 use Rattle.std.proofs.Common.{◌≡◌, ℕ, suc, ◌+◌, ◌-◌, List, ◌++◌, Ok, vec_items, sym, ◌∙◌, subst, add-one, arith, rules}
-use Rattle.std.proofs.lemmas.Result.{IfOk-from_err}
 use Rattle.pages.specs.declared.page.Page.{Page}
 use Rattle.roll.specs.Pages.{PartAt, PageAt}
 use Rattle.report.specs.Reports.{PageBlock, PageWritten, PagesWritten}
@@ -12,12 +11,6 @@ one_more b k front block out page h p w e =
 
 pub loop-place-preserved : goal.loop-place-preserved
 loop-place-preserved c =
-    let longer : vec_items c.extend-from-slice.new.self ≡ vec_items c.loop-place.out ++ vec_items c.in-ok-block.block = search rules in
-    one_more c.args.roll.now.bytes.now c.loop-place.place (vec_items c.loop-place.out) (vec_items c.in-ok-block.block) (vec_items c.extend-from-slice.new.self) c.in-Ok.page c.loop-place.invariant
-    (c.in-Ok.ensures c.requires) c.in-ok-block.ensures longer
-
-pub returns-in-err-block : goal.returns-in-err-block
-returns-in-err-block c = IfOk-from_err c.from-residual.result _ c.from-residual.ensures.0
-
-pub returns-in-err-extend-from-slice : goal.returns-in-err-extend-from-slice
-returns-in-err-extend-from-slice c = IfOk-from_err c.from-residual-in-err-extend-from-slice.result _ c.from-residual-in-err-extend-from-slice.ensures.0
+    let longer : vec_items c.extend_from_slice.new.self ≡ vec_items c.loop-place.out ++ vec_items c.in_ok-block-in-Ok.block = search rules in
+    one_more c.args.roll.now.bytes.now c.loop-place.place (vec_items c.loop-place.out) (vec_items c.in_ok-block-in-Ok.block) (vec_items c.extend_from_slice.new.self) c.in-Ok.page c.loop-place.invariant
+    (c.in-Ok.ensures c.requires) c.in_ok-block-in-Ok.ensures longer
