@@ -1,10 +1,8 @@
 -- The number that each refusal is told by, and the values that come with it. Assumes nothing.
 use Rattle.std.specs.Prelude.{ℕ}
-use Rattle.charset.specs.declared.SetRefusal.{SetRefusal}
 use Rattle.conversion.specs.declared.Fault.{Fault}
 use Rattle.conversion.specs.declared.Fault.TheVariants.{Unread, Unwritten, Unfinished}
 use Rattle.answers.specs.declared.Done.{Done}
-use Rattle.answers.specs.declared.FaultAt.{FaultAt}
 use Rattle.answers.specs.declared.Refusal.{Refusal}
 use Rattle.answers.specs.declared.Refusal.TheVariants.{SectorTooLong, OutputTooLong, SourceTooLong, Standing, AlreadyClosed, Faulted, Full}
 use Rattle.answers.specs.declared.Told.{Told}

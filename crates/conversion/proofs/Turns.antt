@@ -1,5 +1,5 @@
 -- One turn of a conversion, on lists. Assumes nothing.
-use Rattle.std.proofs.Common.{◌≡◌, ℕ, ◌+◌, ◌-◌, ◌<◌, ◌≤◌, List, [], ◌∷◌, ◌++◌, length, take, drop, Some, Ok, Err, sym, refl, ap, ◌∙◌, subst, append_assoc, append-nil, arith, length-append, length-drop, take-append-drop, length-take, length-take-le, drop-drop, take_at, take-add, drop_at}
+use Rattle.std.proofs.Common.{◌≡◌, ℕ, ◌+◌, ◌-◌, ◌<◌, ◌≤◌, List, [], ◌∷◌, ◌++◌, length, take, drop, Ok, Err, sym, refl, ap, ◌∙◌, append_assoc, append-nil, arith, length-append, length-drop, take-append-drop, length-take, length-take-le, drop-drop, take_at, take-add, drop_at}
 use mathlib.Core.Path.{subst₃}
 use borrow.Rule.Slice.PartMut.{put_mid, post_of}
 use Rattle.std.proofs.lemmas.List.{take_rest, drop_all}
@@ -8,8 +8,7 @@ use Rattle.charset.specs.Meaning.{Meaning, Laws}
 use Rattle.charset.specs.Answers.{Reads}
 use Rattle.conversion.specs.declared.Fault.TheVariants.{Unread, Unwritten, Unfinished}
 use Rattle.conversion.specs.declared.Pause.TheVariants.{Open, Full}
-use Rattle.conversion.specs.declared.Step.{Step}
-use Rattle.conversion.specs.declared.Step.TheVariants.{Written, Paused}
+use Rattle.conversion.specs.declared.Step.TheVariants.{Written}
 use Rattle.conversion.specs.Stops.{End, Leads, Stops}
 use Rattle.conversion.specs.Steps.{Steps}
 use Rattle.conversion.specs.Runs.{Runs}

@@ -1,5 +1,5 @@
 -- Fronts of strings, and that the first four bytes of a string decide a step. Assumes nothing.
-use Rattle.std.proofs.Common.{◌≡◌, ℕ, ◌+◌, ◌-◌, ◌<◌, ◌≤◌, List, [], ◌∷◌, ◌++◌, length, get_or, take, drop, set, Ok, Err, Result, sym, refl, ap, ◌∙◌, append_assoc, arith, length-drop, take-append-drop, length-take, take_all}
+use Rattle.std.proofs.Common.{◌≡◌, ℕ, ◌+◌, ◌-◌, ◌<◌, ◌≤◌, List, [], ◌∷◌, ◌++◌, length, get_or, take, drop, set, Ok, Err, Result, sym, ap, ◌∙◌, append_assoc, arith, length-drop, take-append-drop, length-take, take_all}
 use lib.Seq.{take-append_seam, drop-append-le, drop-append-add}
 use Rattle.std.proofs.lemmas.List.{take_more, take_more_set, take_rest}
 use Rattle.charset.specs.declared.Reading.TheVariants as reading

@@ -1,8 +1,7 @@
 -- The promises of a transcription as the text of a page. Assumes nothing.
-use Rattle.std.proofs.Common.{◌≡◌, ℕ, ◌<◌, Bool, List, length, IfOk, Ok, Err, vec_items, Result, sym, refl, ◌∙◌, subst, arith}
+use Rattle.std.proofs.Common.{◌≡◌, ℕ, ◌<◌, List, length, IfOk, Ok, Err, vec_items, Result, subst, arith}
 use Rattle.charset.specs.Meaning.{Meaning}
 use Rattle.sets.specs.Utf8.{utf8}
-use Rattle.layers.specs.Layers.{controls}
 use Rattle.transcription.specs.declared.Failure.{Failure}
 use Rattle.transcription.specs.declared.Failure.TheVariants.{NoMemory, TooLong}
 use Rattle.transcription.specs.declared.Transcription.{Transcription}

@@ -1,5 +1,5 @@
 -- Every character of every form has a coding in UTF-8. Assumes nothing.
-use Rattle.std.proofs.Common.{◌≡◌, ℕ, ◌<◌, Bool, true, false, cond, ltb, List, [], ◌∷◌, take, drop, IfOk, Some, None, Ok, Err, Option, Result, sym, refl, ◌∙◌, subst, inl, inr, arith}
+use Rattle.std.proofs.Common.{◌≡◌, ℕ, Bool, true, false, cond, ltb, List, [], ◌∷◌, take, drop, IfOk, Some, None, Ok, Err, Option, Result, sym, refl, ◌∙◌, subst, inl, inr, arith}
 use Rattle.std.proofs.lemmas.Bool.{ltb-true}
 use Rattle.std.proofs.lemmas.Bool.Decides.{nat_tests}
 use Rattle.charset.specs.Meaning.{Meaning, Codes, Laws}
@@ -17,7 +17,7 @@ use Rattle.sets.specs.Tables.{no_none, some_same, every_at}
 use Rattle.sets.specs.Utf8Laws.{utf8_laws, low_written}
 use Rattle.layers.specs.CharacterList.{required}
 use Rattle.layers.specs.Layers.{parity, shift, sub, controls}
-use Rattle.layers.specs.LayersKeep.{parity_laws, shift_laws, sub_laws, controls_laws}
+use Rattle.layers.specs.LayersKeep.{shift_laws, sub_laws, controls_laws}
 use Rattle.layers.proofs.Wording.{parity_meaning, shift_meaning}
 use Rattle.layers.proofs.MoreWording.{sub_meaning, controls_meaning}
 use Rattle.conversion.specs.declared.Fault.{Fault}

@@ -1,5 +1,5 @@
 -- The law of every use of a transcript. Assumes nothing.
-use Rattle.std.specs.Prelude.{◌≡◌, ℕ, ◌-◌, ◌≤◌, ◌⊎◌, List, [], ◌∷◌, ◌++◌, length, take, None, Ok, Err, ◌≢◌}
+use Rattle.std.specs.Prelude.{◌≡◌, ℕ, ◌≤◌, ◌⊎◌, List, [], ◌∷◌, ◌++◌, length, take, None, Ok, Err, ◌≢◌}
 use Rattle.charset.specs.Meaning.{Meaning}
 use Rattle.charset.specs.Decoding.{Spells, Decodes}
 use Rattle.conversion.specs.declared.Fault.TheVariants.{Unread, Unwritten}

@@ -1,5 +1,5 @@
 -- The bytes of a roll as it is packed. Assumes nothing.
-use Rattle.std.specs.Prelude.{◌≡◌, ℕ, ◌+◌, ◌/◌, ◌%◌, ◌<◌, ◌≤◌, List, [], ◌∷◌, ◌++◌, length, Ok, Err, Result}
+use Rattle.std.specs.Prelude.{ℕ, ◌+◌, ◌/◌, ◌%◌, ◌<◌, ◌≤◌, List, [], ◌∷◌, ◌++◌, length, Ok, Err, Result}
 use Rattle.packing.specs.declared.builder.refusal.PackRefusal.{PackRefusal}
 use Rattle.packing.specs.declared.builder.refusal.PackRefusal.TheVariants.{UnknownForm, TooManyPages, TooLong, NoMemory}
 

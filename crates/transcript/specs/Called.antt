@@ -9,7 +9,7 @@ use Rattle.answers.specs.declared.Refusal.{Refusal}
 use Rattle.answers.specs.declared.Status.{Status}
 use Rattle.transcript.specs.declared.calls.Call.{Call}
 use Rattle.transcript.specs.declared.calls.Call.TheVariants as call
-use Rattle.transcript.specs.Calls.{Snapshot, OfferAnswer, CloseAnswer, status_of}
+use Rattle.transcript.specs.Calls.{Snapshot, OfferAnswer, CloseAnswer}
 use Rattle.transcript.specs.Uses.{start, offer, close, status, Step}
 
 -- a call as it is seen at the return: its cases in order, as a sum

@@ -2,7 +2,6 @@
 use Rattle.std.specs.Prelude.{◌≡◌, ℕ, List, [], ◌∷◌, ◌++◌, take, Ok, Err}
 use Rattle.charset.specs.Meaning.{Meaning}
 use Rattle.answers.specs.declared.Status.{Status}
-use Rattle.answers.specs.declared.Refusal.{Refusal}
 use Rattle.answers.specs.declared.Refusal.TheVariants.{SectorTooLong, OutputTooLong, SourceTooLong, Standing, AlreadyClosed, Faulted, Full}
 use Rattle.transcript.specs.Calls.{Snapshot, fresh, OfferAnswer, CloseAnswer, Offered, ClosedOn, status_of}
 

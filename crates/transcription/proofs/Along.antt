@@ -1,29 +1,19 @@
 -- Offers of a text, sector after sector, and what they come to. Assumes nothing.
-use Rattle.std.proofs.Common.{◌≡◌, ℕ, zero, suc, ◌+◌, ◌-◌, ◌*◌, ◌<◌, ◌≤◌, Bool, true, false, cond, ltb, ◌⊎◌, List, [], ◌∷◌, ◌++◌, length, take, drop, Some, None, Ok, Err, Option, sym, refl, ap, ◌∙◌, subst, inl, inr, append_assoc, append-nil, arith, length-append, length-drop, take-append-drop, length-take, length-take-le, take_all, take_at, take-add, drop_at}
-use lib.Seq.{take-append_seam, drop-append_seam, take-append-le, take-length}
+use Rattle.std.proofs.Common.{◌≡◌, ℕ, ◌+◌, ◌-◌, ◌≤◌, List, [], ◌∷◌, ◌++◌, length, take, drop, Some, None, Ok, Err, sym, refl, ap, ◌∙◌, arith, length-append, length-drop, take-append-drop, length-take-le}
+use lib.Seq.{take-append_seam, take-append-le}
 use Rattle.std.proofs.lemmas.Bool.{le-ltb}
 use Rattle.charset.specs.declared.Reading.TheVariants.{Found}
-use Rattle.charset.specs.Meaning.{Meaning, Codes, Opens, Unreadable, Laws}
+use Rattle.charset.specs.Meaning.{Meaning, Unreadable, Laws}
 use Rattle.charset.specs.Answers.{Reads}
-use Rattle.charset.specs.Decoding.{Spells}
 use Rattle.charset.proofs.Front.{bad_grows}
-use Rattle.charset.proofs.Spelling.{spells_append}
 use Rattle.conversion.specs.declared.Fault.{Fault}
 use Rattle.conversion.specs.declared.Fault.TheVariants.{Unread, Unwritten, Unfinished}
-use Rattle.conversion.specs.declared.Pause.TheVariants as pause
-use Rattle.conversion.specs.Stops.{End, Stops, Reaches}
-use Rattle.answers.specs.declared.Done.{Done}
-use Rattle.answers.specs.declared.FaultAt.{FaultAt}
-use Rattle.answers.specs.declared.Refusal.{Refusal}
-use Rattle.answers.specs.declared.Refusal.TheVariants as refusal
-use Rattle.answers.specs.declared.State.{State}
-use Rattle.answers.specs.declared.State.TheVariants.{Open, Faulted, Closed}
-use Rattle.transcript.specs.Calls.{Snapshot, fresh, OfferAnswer, CloseAnswer, limits, refused, takes, answers, offset_of, fault_at, unfinished, Worked, OfferedIf, ClosedOn}
-use Rattle.transcript.specs.Uses.{Event, start, offer, close, status, Step, Use, made, call, took, wrote, taken_in, written_in}
-use Rattle.law.specs.Law.{Feeds, StandsOn}
-use Rattle.transcript.proofs.Counting.{spelt_size}
-use Rattle.law.proofs.Keeping.{stands}
-use Rattle.transcription.specs.Transcribed.{Ends, Transcribed}
+use Rattle.conversion.specs.Stops.{Stops}
+use Rattle.answers.specs.declared.State.TheVariants.{Open}
+use Rattle.transcript.specs.Calls.{Snapshot, fresh, limits}
+use Rattle.transcript.specs.Uses.{Event, start, Use, made, taken_in, written_in}
+use Rattle.law.specs.Law.{Feeds}
+use Rattle.transcription.specs.Transcribed.{Ends}
 use Rattle.transcription.specs.Carried.{AllTakenOrFaulted}
 
 -- the bytes before a place are offered and taken, and their text is written

@@ -1,21 +1,18 @@
 -- The end of a text: its last offer faulted, or all is taken and the transcript is closed. Assumes nothing.
-use Rattle.std.proofs.Common.{◌≡◌, ℕ, ◌+◌, ◌-◌, ◌<◌, ◌≤◌, ◌⊎◌, List, [], ◌∷◌, ◌++◌, length, take, drop, Some, None, Ok, Err, sym, refl, ap, ◌∙◌, subst, inl, inr, append-nil, arith, length-append, take_all, take_at, drop_at}
-use lib.Seq.{take-length, drop-length, take-append_seam, drop-append_seam}
+use Rattle.std.proofs.Common.{◌≡◌, ℕ, ◌+◌, ◌-◌, ◌≤◌, List, [], ◌∷◌, ◌++◌, length, take, drop, Some, None, Ok, Err, sym, refl, ap, ◌∙◌, subst, inl, inr, arith, length-append, take_all, take_at, drop_at}
 use Rattle.charset.specs.Meaning.{Meaning, Laws}
 use Rattle.charset.specs.Decoding.{Spells}
 use Rattle.conversion.specs.declared.Fault.TheVariants.{Unfinished}
 use Rattle.answers.specs.declared.FaultAt.{FaultAt}
-use Rattle.answers.specs.declared.Refusal.{Refusal}
 use Rattle.answers.specs.declared.Refusal.TheVariants as refusal
-use Rattle.answers.specs.declared.State.{State}
-use Rattle.answers.specs.declared.State.TheVariants.{Open, Faulted, Closed}
+use Rattle.answers.specs.declared.State.TheVariants.{Open}
 use Rattle.answers.specs.declared.Status.{Status}
 use Rattle.transcript.specs.Calls.{Snapshot, CloseAnswer, unfinished, status_of, ClosedOn}
 use Rattle.transcript.specs.Uses.{close, status, Step, call, taken_in, written_in}
 use Rattle.law.specs.Law.{StandsOn}
 use Rattle.law.proofs.Keeping.{stands}
 use Rattle.transcription.specs.Transcribed.{Ends, Transcribed, TheTranscript}
-use Rattle.transcription.specs.Carried.{Outcome, fault_in, offset_in, closing, AcceptedOrFaulted, Ended, CarriedOut}
+use Rattle.transcription.specs.Carried.{Outcome, fault_in, offset_in, closing, CarriedOut}
 use Rattle.transcription.proofs.Once.{the_transcript}
 use Rattle.transcription.proofs.Along.{Along}
 use Rattle.transcription.proofs.Sectors.{Stopped}

@@ -1,18 +1,18 @@
 -- One sector more: the text goes on, or ends in a fault, and the output is never too small. Assumes nothing.
-use Rattle.std.proofs.Common.{◌≡◌, ℕ, ◌+◌, ◌-◌, ◌*◌, ◌<◌, ◌≤◌, min, ◌⊎◌, List, [], ◌∷◌, ◌++◌, length, take, drop, Some, None, Ok, Err, Option, sym, refl, ap, ◌∙◌, subst, inl, inr, append_assoc, append-nil, arith, length-append, length-take, length-take-le, take_at, drop_at}
-use lib.Seq.{take-append_seam, take-append-add, take-length}
+use Rattle.std.proofs.Common.{◌≡◌, ℕ, ◌+◌, ◌-◌, ◌<◌, ◌≤◌, min, ◌⊎◌, List, ◌∷◌, ◌++◌, length, take, drop, Some, None, Ok, Err, sym, refl, ap, ◌∙◌, subst, inl, inr, append_assoc, arith, length-append, length-take, length-take-le, take_at, drop_at}
+use lib.Seq.{take-append_seam, take-length}
 use Rattle.charset.specs.Meaning.{Meaning, Laws}
 use Rattle.charset.specs.Decoding.{Spells}
 use Rattle.charset.proofs.Spelling.{spells_append}
 use Rattle.conversion.specs.declared.Fault.{Fault}
 use Rattle.conversion.specs.declared.Pause.TheVariants as pause
-use Rattle.conversion.specs.Stops.{End, Stops, Reaches}
+use Rattle.conversion.specs.Stops.{End, Reaches}
 use Rattle.answers.specs.declared.Done.{Done}
 use Rattle.answers.specs.declared.FaultAt.{FaultAt}
 use Rattle.answers.specs.declared.Refusal.{Refusal}
 use Rattle.answers.specs.declared.Refusal.TheVariants as refusal
-use Rattle.answers.specs.declared.State.TheVariants.{Open, Faulted}
-use Rattle.transcript.specs.Calls.{Snapshot, OfferAnswer, limits, refused, takes, answers, state_after, offset_of, done, fault_at, Worked, OfferedIf}
+use Rattle.answers.specs.declared.State.TheVariants.{Faulted}
+use Rattle.transcript.specs.Calls.{Snapshot, OfferAnswer, refused, takes, answers, state_after, offset_of, done, fault_at, Worked, OfferedIf}
 use Rattle.transcript.specs.Uses.{Event, offer, Step, Use, call, wrote, taken_in, written_in}
 use Rattle.law.specs.Law.{Feeds, StandsOn}
 use Rattle.transcript.proofs.Counting.{spelt_size}

@@ -1,11 +1,11 @@
-use Rattle.std.proofs.Common.{◌≡◌, ℕ, ◌+◌, ◌-◌, ◌<◌, ◌≤◌, List, ◌++◌, length, take, drop, Ok, Err, sym, refl, subst, arith, length-append, length-take}
+use Rattle.std.proofs.Common.{◌≡◌, ℕ, ◌+◌, ◌-◌, ◌<◌, ◌≤◌, List, ◌++◌, length, take, drop, Ok, Err, refl, subst, arith, length-append, length-take}
 use Rattle.charset.specs.Meaning.{Meaning, Laws}
 use Rattle.charset.specs.Sets.{set_of}
 use Rattle.conversion.specs.declared.Step.{Step}
-use Rattle.conversion.specs.declared.Step.TheVariants.{Written, Paused}
+use Rattle.conversion.specs.declared.Step.TheVariants.{Written}
 use Rattle.conversion.specs.Fronts.{front_bytes}
 use Rattle.conversion.specs.Steps.{Steps}
-use Rattle.conversion.proofs.Turns.{Far, far_none, found_size, far_more, far_ends}
+use Rattle.conversion.proofs.Turns.{Far, found_size, far_more, far_ends}
 use Rattle.conversion.proofs.convert.Given.{Over}
 use Rattle.conversion.proofs.convert.Goals as goal
 

@@ -1,5 +1,4 @@
-use Rattle.std.proofs.Common.{◌≡◌, ℕ, Bool, List, IfOk, vec_items, Result, sym, refl, ap, ◌∙◌, subst, arith}
-use Rattle.std.proofs.lemmas.Result.{err_from_is_err_and}
+use Rattle.std.proofs.Common.{◌≡◌, ℕ, Bool, List, IfOk, Result, sym, ap, ◌∙◌}
 use Rattle.sets.specs.Iso6937.{iso6937}
 use Rattle.sets.specs.SingleByte.{single_byte}
 use Rattle.sets.specs.Utf8.{utf8}

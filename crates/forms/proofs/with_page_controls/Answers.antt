@@ -1,5 +1,4 @@
 use Rattle.std.proofs.Common.{Bool, List}
-use Rattle.charset.specs.Meaning.{Meaning}
 use Rattle.charset.specs.Sets.{set_of}
 use Rattle.layers.specs.Layers.{controls}
 use Rattle.forms.specs.PageControls.{page_controls}

@@ -1,7 +1,7 @@
-use Rattle.std.proofs.Common.{◌≡◌, ℕ, suc, ◌+◌, ◌-◌, List, ◌++◌, Ok, vec_items, sym, ◌∙◌, subst, add-one, arith, rules}
+use Rattle.std.proofs.Common.{◌≡◌, ℕ, ◌+◌, ◌-◌, List, ◌++◌, Ok, vec_items, sym, subst, add-one, arith, rules}
 use Rattle.pages.specs.declared.page.Page.{Page}
 use Rattle.roll.specs.Pages.{PartAt, PageAt}
-use Rattle.report.specs.Reports.{PageBlock, PageWritten, PagesWritten}
+use Rattle.report.specs.Reports.{PageBlock, PagesWritten}
 use Rattle.report.proofs.blocks.Goals as goal
 
 one_more : (b : List ℕ) (k : ℕ) (front block out : List ℕ) (page : Page) → PagesWritten b k front → PageAt b (k + 1) (Ok page) → PageBlock (k + 1) page block → out ≡ front ++ block → PagesWritten b (k + 1) out

@@ -1,4 +1,4 @@
-use Rattle.std.proofs.Common.{◌≡◌, ℕ, List, ◌++◌, IfOk, Err, string_bytes, codes, decimal, Result, ap}
+use Rattle.std.proofs.Common.{◌≡◌, ℕ, List, ◌++◌, IfOk, Err, string_bytes, codes, decimal, Result}
 use Rattle.pages.specs.declared.fault.RollFault.{RollFault}
 use Rattle.pages.specs.declared.fault.RollTold.{RollTold}
 use Rattle.pages.specs.Told.{told}

@@ -1,10 +1,9 @@
-use Rattle.std.proofs.Common.{◌≡◌, ℕ, ◌+◌, ◌-◌, ◌<◌, ◌≤◌, min, List, ◌++◌, length, take, drop, Ok, Err, vec_items, sym, refl, ap, ◌∙◌, subst, subst₂, arith, rules}
-use Rattle.std.proofs.lemmas.Result.{err_from_is_err_and}
+use Rattle.std.proofs.Common.{◌≡◌, ℕ, ◌+◌, ◌-◌, ◌<◌, ◌≤◌, min, List, ◌++◌, length, take, drop, Ok, Err, vec_items, refl, ◌∙◌, subst, subst₂, rules}
 use Rattle.charset.specs.Meaning.{Meaning, Laws}
 use Rattle.charset.specs.Sets.{set_of}
 use Rattle.transcript.specs.Calls.{Snapshot, OfferAnswer}
 use Rattle.transcript.specs.Snapshots.{snapshot}
-use Rattle.transcript.specs.Uses.{Event, offer, close, Step}
+use Rattle.transcript.specs.Uses.{offer, close, Step}
 use Rattle.law.proofs.Whole.{the_law}
 use Rattle.transcription.proofs.Along.{Along, along_none}
 use Rattle.transcription.specs.Carried.{Outcome}

@@ -1,4 +1,4 @@
-use Rattle.std.proofs.Common.{◌≡◌, ◌<◌, ◌≤◌, length, take, ◌∙◌, arith, length-set, length-take-le}
+use Rattle.std.proofs.Common.{take, ◌∙◌, arith, length-set, length-take-le}
 use Rattle.conversion.proofs.Windows.{front_more, front_full, front_all}
 use Rattle.conversion.proofs.front.Front.followed_by.Goals as goal
 

@@ -1,5 +1,4 @@
-use Rattle.std.proofs.Common.{◌≡◌, [], ◌∷◌, ◌++◌, length, vec_items, vec_len, sym, ap, ◌∙◌, append_assoc, rules}
-use Rattle.packing.specs.Packed.{in_four}
+use Rattle.std.proofs.Common.{◌≡◌, [], ◌∷◌, ◌++◌, length, vec_items, ap, ◌∙◌, append_assoc, rules}
 use Rattle.packing.proofs.Lists.{three_more}
 use Rattle.packing.proofs.builder.Builder.finish.Goals as goal
 

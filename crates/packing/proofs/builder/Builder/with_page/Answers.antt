@@ -1,5 +1,4 @@
 use Rattle.std.proofs.Common.{◌≡◌, [], ◌∷◌, ◌++◌, vec_items, ◌∙◌, rules}
-use Rattle.packing.specs.Packed.{in_four}
 use Rattle.packing.proofs.Lists.{three_more}
 use Rattle.packing.proofs.builder.Builder.with_page.Goals as goal
 

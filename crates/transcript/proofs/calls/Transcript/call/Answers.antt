@@ -7,9 +7,8 @@ use Rattle.answers.specs.declared.Answer.{Answer}
 use Rattle.answers.specs.declared.Answer.TheVariants as answer
 use Rattle.answers.specs.declared.Refusal.{Refusal}
 use Rattle.answers.specs.declared.Refusal.TheVariants.{AlreadyClosed, Standing}
-use Rattle.answers.specs.declared.State.{State}
-use Rattle.answers.specs.declared.State.TheVariants.{Open, Faulted, Closed}
-use Rattle.transcript.specs.Calls.{Snapshot, OfferAnswer, CloseAnswer, limits, OfferedIf, ClosedOn, refused}
+use Rattle.answers.specs.declared.State.TheVariants.{Open}
+use Rattle.transcript.specs.Calls.{Snapshot, OfferAnswer, limits, OfferedIf, refused}
 use Rattle.transcript.specs.Snapshots.{snapshot}
 use Rattle.transcript.specs.Uses.{offer, Step}
 use Rattle.transcript.specs.Called.{offered}

@@ -1,6 +1,6 @@
-use Rattle.std.proofs.Common.{◌≡◌, length, sym, ap, ◌∙◌, subst, arith, length-append, length-drop, length-take, rules}
+use Rattle.std.proofs.Common.{length, ap, arith}
 use Rattle.conversion.specs.Fronts.{front_bytes}
-use Rattle.transcript.proofs.Settling.{part_counted, whole_counted, opening_whole, kept_any}
+use Rattle.transcript.proofs.Settling.{part_counted, whole_counted}
 use Rattle.transcript.proofs.progress.Progress.settle.Goals as goal
 
 pub overflow_sub-offset : goal.overflow_sub-offset
