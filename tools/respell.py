@@ -1,7 +1,7 @@
 #!/usr/bin/env python3
 """Respells this repository's own definitions, lemmas and record fields in specs/ and proofs/, and every use of them:
-types and facts in camel case, everything else in snake case. Names that the checker makes, functions of src/, strings
-and comments stay as they are; in pages (*.md) only names between backticks change.
+types and facts in camel case, everything else in snake case. Names that the checker makes, functions of src/ and strings
+stay as they are; in comments and pages (*.md) only names between backticks change.
 
     tools/respell.py          once, at the top, after port.py; prints each new name, and fails where two names fall together
 """
@@ -16,8 +16,6 @@ SIGNATURE = re.compile(rf"^(\s*)(?:(?:abbrev|unfoldable|pub|record|data)\s+)*({N
 CASES = re.compile(rf"^  ((?:{NAME} )+{NAME}) :(?:\s|$)")
 LOCAL = re.compile(rf"\blet ({NAME}) [:=]")
 TOKEN = re.compile(rf"\"(?:[^\"\\]|\\.)*\"|{NAME}")
-
-
 # Where the plain respelling would be the name of a case or a type of src/.
 OWN = {"Not-increasing": "IsNotIncreasing", "Page-text": "IsPageText", "Too-long": "IsTooLong", "Too-many": "HasTooMany"}
 
@@ -83,11 +81,14 @@ def main():
             return new[name]
         return TOKEN.sub(one, code)
 
+    def between_backticks(text):
+        return re.sub(r"`[^`\n]+`", lambda match: "`" + changed(match.group(0)[1:-1]) + "`", text)
+
     def in_code(text, comment):
         lines = []
         for line in text.split("\n"):
             code, mark, rest = line.partition(comment)
-            lines.append(changed(code) + mark + rest)
+            lines.append(changed(code) + mark + between_backticks(rest))
         return "\n".join(lines)
 
     for path in logic_files():
@@ -97,7 +98,7 @@ def main():
     for path in [TOP / "README.md", *sorted((TOP / "docs").glob("*.md"))]:
         if path.name.startswith("PORT"):
             continue
-        path.write_text(re.sub(r"`[^`\n]+`", lambda m: "`" + changed(m.group(0)[1:-1]) + "`", path.read_text()))
+        path.write_text(between_backticks(path.read_text()))
     for name, to in new.items():
         print(name, "->", to)
     if clash:

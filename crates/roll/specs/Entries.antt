@@ -10,7 +10,7 @@ padded_at b e = slice_index b (e + 9) == 0 && (slice_index b (e + 10) == 0 && sl
 abbrev pub end_at : List ℕ → ℕ → ℕ
 end_at b e = word b e + word b (e + 4)
 
--- `entry-holds`, with the trailer's numbers and the start of the page given
+-- `entry_holds`, with the trailer's numbers and the start of the page given
 abbrev pub holds_at : List ℕ → ℕ → ℕ → ℕ → ℕ → Bool
 holds_at b index count k start =
     (word b (index + 12 * k) == start) && (nat_le (slice_index b (index + 12 * k + 8)) 7 && (padded_at b (index + 12 * k) && cond (k + 1 == count) (end_at b (index + 12 * k) == index) true))

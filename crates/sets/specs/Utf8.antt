@@ -58,7 +58,7 @@ utf8_string c =
     (cond (nat_lt c 0x10000) (Some ((0xe0 + c / 4096) ∷ low_bits (c / 64) ∷ low_bits c ∷ []))
     (cond (nat_lt c 0x110000) (Some ((0xf0 + c / 262144) ∷ low_bits (c / 4096) ∷ low_bits (c / 64) ∷ low_bits c ∷ [])) None))))
 
--- the proper beginnings of codings, as `Openings-begin-codings` and the laws say
+-- the proper beginnings of codings, as `OpeningsBeginCodings` and the laws say
 abbrev pub utf8_openings : List ℕ → Bool
 utf8_openings [] = true
 utf8_openings (a ∷ []) = lead a
