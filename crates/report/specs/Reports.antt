@@ -1,4 +1,4 @@
--- What the program writes of a roll. Assumes nothing.
+-- What is written of a roll. Assumes nothing.
 use Rattle.std.specs.Prelude.{◌≡◌, ℕ, zero, suc, ◌+◌, ◌<◌, ◌≤◌, ◌⊎◌, List, [], ◌∷◌, ◌++◌, length, decimal, Result}
 use Rattle.pages.specs.declared.fault.RollFault.{RollFault}
 use Rattle.pages.specs.declared.page.Page.{Page}

@@ -1,4 +1,4 @@
-// What the program writes of a roll.
+// What is written of a roll.
 #![tactic(auto)]
 
 ghost use Rattle.std.specs.Prelude.{◌≡◌, ℕ, ◌+◌, ◌≤◌, ◌++◌, IfOk, string_bytes};
@@ -12,7 +12,7 @@ use pages::Page;
 use roll::Roll;
 use std::alloc::{AllocError, Global};
 
-// How many bytes a roll may have that the program reads.
+// How many bytes a roll may have that `report` reads.
 pub const LONGEST_INPUT: usize = 65_536;
 
 // How a page went: its number, form and characters, then `ok`, or the refusal, `@` and the offset.
@@ -74,7 +74,7 @@ fn blocks(heap: Global, roll: &Roll) -> Result<Vec<u8>, AllocError>
     Ok(out)
 }
 
-// What the program writes of an input.
+// What is written of an input.
 pub fn report(heap: Global, input: &[u8]) -> Result<Vec<u8>, AllocError>
     ensures { IfOk result (λ out. Reports input.now out.items) }
 {

@@ -41,11 +41,5 @@ fn pack(rt: &HostRuntime) -> anyhow::Result<()> {
 }
 
 fn main(rt: HostRuntime) -> anyhow::Result<()> {
-    match pack(&rt) {
-        Ok(()) => Ok(()),
-        Err(error) => {
-            eprintln!(rt; "rollmake: {error}")?;
-            Err(error)
-        }
-    }
+    pack(&rt)
 }

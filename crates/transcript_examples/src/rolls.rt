@@ -1,4 +1,4 @@
-// Rolls: every refusal at its edge, all eight forms, and what the program writes.
+// Rolls: every refusal at its edge, all eight forms, and what is written of a roll.
 use packing::{Builder, PackRefusal};
 use pages::RollFault;
 use report::report;
@@ -73,7 +73,7 @@ fn eight_forms(rt: HostRuntime) -> Result<(), Fail> {
     Ok(())
 }
 
-// The longest roll that the program reads, and the last entry of two broken.
+// The longest roll that `report` reads, and the last entry of two broken.
 #[test]
 fn longest_and_last(rt: HostRuntime) -> Result<(), Fail> {
     let page = vec![in rt.alloc(); b'a'; 65_508]?;
