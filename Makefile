@@ -3,7 +3,7 @@
 # Proves and builds the program, then transcribes the sample page.
 run:
 	@mkdir -p target/bin
-	@echo "proving and building finetalc (one to two minutes the first time) ..."
+	@echo "proving and building finetalc (a few minutes the first time) ..."
 	@cd crates/finetalc && rt run < stdin > ../../target/run.log 2>&1 || { cat ../../target/run.log; exit 1; }
 	@cp crates/finetalc/out/finetalc target/bin/
 	@target/bin/finetalc < crates/finetalc/stdin
