@@ -3,7 +3,7 @@
 types and facts in camel case, everything else in snake case. Names that the checker makes, functions of src/ and strings
 stay as they are; in comments and pages (*.md) only names between backticks change.
 
-    tools/respell.py          once, at the top, after port.py; prints each new name, and fails where two names fall together
+    tools/respell.py          once, at the top, after port.py; prints each new name; changes nothing where two names would fall together
 """
 import pathlib
 import re
@@ -68,6 +68,8 @@ def main():
     for name, to in [*new.items(), *((name, name) for name in others)]:
         together.setdefault(to, []).append(name)
     clash = {to: names for to, names in together.items() if len(names) > 1}
+    if clash:
+        sys.exit("names that fall together: " + "; ".join(f"{to}: {', '.join(names)}" for to, names in sorted(clash.items())))
 
     def changed(code):
         def one(match):
@@ -101,8 +103,6 @@ def main():
         path.write_text(between_backticks(path.read_text()))
     for name, to in new.items():
         print(name, "->", to)
-    if clash:
-        sys.exit("names that fall together: " + "; ".join(f"{to}: {', '.join(names)}" for to, names in sorted(clash.items())))
 
 
 if __name__ == "__main__":
