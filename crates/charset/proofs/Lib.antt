@@ -1,2 +1,3 @@
-pub mod Front
+pub mod FrontLemmas
 pub mod Spelling
+pub mod Places

@@ -4,7 +4,7 @@ use mathlib.Core.List.{append_cancel_left}
 use lib.Seq.{take-append_seam}
 use Rattle.charset.specs.Meaning.{Meaning, Codes, Opens, Laws}
 use Rattle.charset.specs.Decoding.{Spells, DecodesOnce}
-use Rattle.charset.proofs.Front.{same_size}
+use Rattle.charset.proofs.FrontLemmas.{same_size}
 
 module _ (m : Meaning) where
   pub spells_append : (cs ds a b : List ℕ) → Spells m cs a → Spells m ds b → Spells m (cs ++ ds) (a ++ b)

@@ -1,11 +1,8 @@
 -- What reading and writing answer. Assumes nothing.
 use Rattle.std.specs.Prelude.{◌≡◌, ℕ, zero, suc, ◌≤◌, cond, List, length, take, Some, None, Ok, Err, Option, Result}
-use Rattle.std.specs.Option.{option_map}
 use Rattle.charset.specs.declared.SetRefusal.{SetRefusal}
 use Rattle.charset.specs.declared.Reading.{Reading}
 use Rattle.charset.specs.declared.Reading.TheVariants.{Found, Open}
-use Rattle.charset.specs.declared.coding.Coding.{Coding}
-use Rattle.charset.specs.Strings.{bytes_of}
 use Rattle.charset.specs.Meaning.{Meaning, Codes, Opens, Unreadable}
 
 abbrev pub Answer : Type 0
@@ -18,8 +15,8 @@ Reads m s (Ok Open) = Opens m s
 Reads m s (Err q) = Unreadable m s × (q ≡ m.causes s)
 
 -- writing c answers its coding, if it has one
-abbrev pub Writes : Meaning → ℕ → Option Coding → Type 0
-Writes m c r = option_map bytes_of r ≡ m.codings.string c
+abbrev pub Writes : Meaning → ℕ → Option (List ℕ) → Type 0
+Writes m c r = r ≡ m.codings.string c
 
 -- r, unless a character of length n is found
 abbrev pub found : Option ℕ → ℕ → Answer → Answer

@@ -1,4 +1,5 @@
 pub mod Strings
+pub mod Padding
 pub mod Meaning
 pub mod Answers
 pub mod Decoding

@@ -1,11 +1,61 @@
 // A coding is a byte string of one to four bytes.
-ghost use Rattle.std.specs.Prelude.{◌<◌, ◌≤◌};
+ghost use Rattle.std.specs.Prelude.{◌≡◌, ◌<◌, ◌≤◌, [], ◌∷◌, length};
+ghost use Rattle.charset.specs.Strings.{joined, unless_empty};
 
-mod build;
+use crate::front::Front;
+use std::marker::Model;
 
+// In contracts a coding is its list of bytes.
 #[derive(Clone, Copy)]
 pub struct Coding {
-    bytes: [u8; 4],
-    len: usize,
-    ghost sized: { (0 < len) × (len ≤ 4) },
+    front: Front,
+}
+
+impl Model for Coding {
+    ghost use Rattle.std.specs.Prelude.{ℕ, ◌<◌, List, length};
+
+    ghost Value = { List ℕ };
+
+    ghost view = { λ k. k.front };
+
+    ghost invariant = { λ k. 0 < length k.front };
+
+    ghost inverse = { λ s. record { front = s } };
+}
+
+impl Coding {
+    // The coding of one byte.
+    pub fn new(first: u8) -> Coding
+        ensures { result ≡ first ∷ [] }
+    {
+        Coding {
+            front: Front::of_one(first),
+        }
+    }
+
+    // The coding of these bytes; none if there are none.
+    pub fn of(front: Front) -> Option<Coding>
+        ensures { result ≡ unless_empty front }
+    {
+        if front.as_bytes().is_empty() {
+            None
+        } else {
+            Some(Coding { front })
+        }
+    }
+
+    // The coding with one more byte behind; none if it has four already.
+    pub fn then(self, byte: u8) -> Option<Coding>
+        ensures { result ≡ joined self byte }
+    {
+        let front = self.front.then(byte)?;
+        Some(Coding { front })
+    }
+
+    pub fn as_bytes(&self) -> &[u8]
+        ensures bytes { result.now ≡ self.now }
+        ensures sized { (0 < length result.now) × (length result.now ≤ 4) }
+    {
+        self.front.as_bytes()
+    }
 }

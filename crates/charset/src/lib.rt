@@ -6,11 +6,14 @@ ghost use Rattle.std.specs.Prelude.{ℕ, Bool, List};
 ghost use Rattle.charset.specs.declared.SetRefusal.{SetRefusal};
 ghost use Rattle.charset.specs.Meaning.{Codings, meaning, Laws};
 ghost use Rattle.charset.specs.Answers.{Reads, Writes};
-ghost use Rattle.charset.specs.Decoding.{ReadByLaws};
 
+mod by_laws;
 mod coding;
+mod front;
 
+pub use by_laws::read_front;
 pub use coding::Coding;
+pub use front::Front;
 
 // Why a string cannot be read: the number of the cause, and how many layers above the one that refused it.
 #[derive(Clone, Copy, PartialEq, Eq, Debug)]
@@ -44,12 +47,4 @@ pub trait CharacterSet {
         ensures { Writes (meaning (codings self.now) (openings self.now) (causes self.now)) number result };
 
     ghost lawful: { (s : Self) → Laws (meaning (codings s) (openings s) (causes s)) };
-}
-
-// What stands in front of `bytes` in any set: the set's own answer, of which the laws say that there is no other, that
-// no more than four bytes decide it, and that what is read so, coding after coding, is read in one way only.
-pub fn read_front<S: CharacterSet>(set: &S, bytes: &[u8]) -> Result<Reading, SetRefusal>
-    ensures { ReadByLaws (meaning (S.CharacterSet.codings set.now) (S.CharacterSet.openings set.now) (S.CharacterSet.causes set.now)) bytes.now result }
-{
-    set.read(bytes)
 }

@@ -5,7 +5,7 @@ use Rattle.std.proofs.lemmas.List.{take_more, take_more_set, take_rest}
 use Rattle.charset.specs.declared.Reading.TheVariants as reading
 use Rattle.charset.specs.Meaning.{Meaning, Laws}
 use Rattle.charset.specs.Answers.{Answer, Reads}
-use Rattle.charset.proofs.Front.{four_bytes_decide}
+use Rattle.charset.proofs.FrontLemmas.{four_bytes_decide}
 use Rattle.conversion.specs.declared.Fault.{Fault}
 use Rattle.conversion.specs.declared.Fault.TheVariants.{Unread, Unwritten, Unfinished}
 use Rattle.conversion.specs.declared.Pause.TheVariants.{Open, Full}

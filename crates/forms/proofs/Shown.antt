@@ -5,7 +5,7 @@ use Rattle.charset.specs.declared.Reading.TheVariants as reading
 use Rattle.charset.specs.Answers.{Answer, Reads, reading}
 use Rattle.charset.specs.Meaning.{Meaning, Laws}
 use Rattle.charset.specs.Decoding.{Spells}
-use Rattle.charset.proofs.Front.{reading_reads}
+use Rattle.charset.proofs.FrontLemmas.{reading_reads}
 use Rattle.sets.specs.declared.cause.Cause.TheVariants.{NotInUse, NoPair}
 use Rattle.sets.specs.Causes.{refusal}
 use Rattle.sets.specs.Search.{first_from}

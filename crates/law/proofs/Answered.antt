@@ -4,7 +4,7 @@ use Rattle.std.proofs.lemmas.Bool.{cases_lt}
 use Rattle.charset.specs.declared.Reading.TheVariants as reading
 use Rattle.charset.specs.Meaning.{Meaning, Laws}
 use Rattle.charset.specs.Answers.{Answer, Reads, reading}
-use Rattle.charset.proofs.Front.{reading_reads}
+use Rattle.charset.proofs.FrontLemmas.{reading_reads}
 use Rattle.conversion.specs.declared.Fault.TheVariants.{Unread, Unwritten}
 use Rattle.conversion.specs.declared.Pause.TheVariants.{Open, Full}
 use Rattle.conversion.specs.Stops.{End, Leads, Stops, Reaches}

@@ -7,7 +7,7 @@ use Rattle.charset.specs.declared.Reading.TheVariants as reading
 use Rattle.charset.specs.Meaning.{Meaning, Laws}
 use Rattle.charset.specs.Answers.{Reads}
 use Rattle.charset.specs.Decoding.{Spells}
-use Rattle.charset.proofs.Front.{none_some}
+use Rattle.charset.proofs.FrontLemmas.{none_some}
 use Rattle.charset.proofs.Spelling.{spells_append, spells_split, spells_one, fronts, same_coding}
 use Rattle.conversion.specs.declared.Fault.TheVariants.{Unread, Unwritten, Unfinished}
 use Rattle.conversion.specs.declared.Pause.TheVariants as pause

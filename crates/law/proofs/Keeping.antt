@@ -3,7 +3,7 @@ use Rattle.std.proofs.Common.{◌≡◌, ℕ, ◌+◌, ◌-◌, ◌<◌, ◌≤�
 use lib.Seq.{take-append_seam, take-append-add, take-length}
 use Rattle.charset.specs.Meaning.{Meaning, Opens, Laws}
 use Rattle.charset.specs.Decoding.{Spells, Decodes}
-use Rattle.charset.proofs.Front.{none_some, opening_passed}
+use Rattle.charset.proofs.FrontLemmas.{none_some, opening_passed}
 use Rattle.charset.proofs.Spelling.{spells_append, decodes_once}
 use Rattle.conversion.specs.declared.Pause.TheVariants as pause
 use Rattle.conversion.specs.Stops.{End, Leads, Stops}

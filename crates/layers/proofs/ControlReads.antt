@@ -6,7 +6,7 @@ use Rattle.charset.specs.declared.Reading.{Reading}
 use Rattle.charset.specs.declared.Reading.TheVariants.{Found}
 use Rattle.charset.specs.Meaning.{Meaning, Laws}
 use Rattle.charset.specs.Answers.{Reads}
-use Rattle.charset.proofs.Front.{reading_is}
+use Rattle.charset.proofs.FrontLemmas.{reading_is}
 use Rattle.layers.specs.Depth.{up}
 use Rattle.layers.specs.Layers.{added, controls}
 use Rattle.layers.proofs.LayerReads.{reads_controls}

@@ -3,7 +3,7 @@ use Rattle.std.proofs.Common.{◌≡◌, ℕ, ◌+◌, min, Bool, true, false, L
 use lib.Seq.{take-append-add}
 use Rattle.std.proofs.lemmas.Bool.{both_ways}
 use Rattle.charset.specs.Meaning.{Meaning, Codes, Opens, Unreadable}
-use Rattle.charset.proofs.Front.{take_min}
+use Rattle.charset.proofs.FrontLemmas.{take_min}
 use Rattle.layers.specs.Words.{FailsAt}
 
 -- it has an opening in front, and a byte with which neither an opening nor a coding comes about

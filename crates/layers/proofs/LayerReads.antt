@@ -9,7 +9,7 @@ use Rattle.layers.specs.Depth.{own, up}
 use Rattle.layers.specs.Recoding.{Recoding, clean, below, ends, is_broken, recoded}
 use Rattle.layers.specs.CharacterList.{on_list}
 use Rattle.layers.specs.Layers.{sub, added, controls}
-use Rattle.charset.proofs.Front.{take_self, reading_is, open_apart}
+use Rattle.charset.proofs.FrontLemmas.{take_self, reading_is, open_apart}
 use Rattle.layers.specs.Recoding.{Agrees}
 use Rattle.layers.specs.Recode.{codes_parts, codes_from, opens_parts, opens_from, below_take, recoded_laws}
 use Rattle.layers.specs.LayersKeep.{kept_parts, control_parts, from_below, new}

@@ -4,7 +4,7 @@ use Rattle.std.proofs.lemmas.Bool.{and_parts, both_ways, lt-ltb}
 use Rattle.charset.specs.declared.Reading.TheVariants.{Found, Open}
 use Rattle.charset.specs.Meaning.{Meaning, Unreadable, Laws}
 use Rattle.charset.specs.Answers.{Answer, Reads, reading}
-use Rattle.charset.proofs.Front.{reading_is, reading_bad, reading_reads}
+use Rattle.charset.proofs.FrontLemmas.{reading_is, reading_bad, reading_reads}
 use Rattle.layers.specs.CharacterList.{on_list}
 use Rattle.layers.specs.Layers.{is_refused, is_none, added, sub}
 use Rattle.layers.specs.Words.{SubMeaning, Added, ControlsMeaning}

@@ -6,7 +6,7 @@ use Rattle.charset.specs.declared.Reading.{Reading}
 use Rattle.charset.specs.declared.Reading.TheVariants.{Found, Open}
 use Rattle.charset.specs.Meaning.{Meaning, Opens, Laws}
 use Rattle.charset.specs.Answers.{Answer, Reads}
-use Rattle.charset.proofs.Front.{none_some}
+use Rattle.charset.proofs.FrontLemmas.{none_some}
 use Rattle.layers.specs.declared.recoding.moves.Form.{Form}
 use Rattle.layers.specs.declared.recoding.moves.Form.TheVariants.{One, Two, Never}
 use Rattle.layers.specs.declared.recoded.scan.Scan.{Scan}

@@ -4,7 +4,7 @@ use Rattle.std.specs.Option.{option_map}
 use Rattle.std.proofs.lemmas.Bool.{cases_lt, lt-ltb, le-ltb, le-leb, lt-leb, both_ways}
 use Rattle.charset.specs.declared.coding.Coding.{Coding}
 use Rattle.charset.specs.Strings.{bytes_of, joined}
-use Rattle.charset.proofs.Front.{none_some}
+use Rattle.charset.proofs.FrontLemmas.{none_some}
 use Rattle.layers.specs.declared.recoding.moves.Form.{Form}
 use Rattle.layers.specs.declared.recoding.moves.Form.TheVariants.{One, Two, Never}
 use Rattle.layers.specs.Recoding.{Recoding, before, shifted, at_most_four}

@@ -16,7 +16,7 @@ use Rattle.layers.specs.Depth.{own, up}
 use Rattle.layers.specs.Recoding.{End, clean, pending, broken, Recoding, put, stop, below, ends, before, shifted, is_broken, recoded}
 use Rattle.layers.specs.Layers.{parity_form, parity_bytes, parity, shift_form, shift_step, shift_bytes, shift}
 use Rattle.layers.specs.Words.{in_parity, InParity, Shifts, BeginsShifted, CannotFollow, ParityMeaning, ShiftMeaning}
-use Rattle.charset.proofs.Front.{none_some, reading_is, reading_bad, bad_grows, opening_passed}
+use Rattle.charset.proofs.FrontLemmas.{none_some, reading_is, reading_bad, bad_grows, opening_passed}
 use Rattle.layers.specs.Recoding.{Agrees}
 use Rattle.layers.specs.Recode.{codes_parts, codes_from, opens_parts, opens_from, shifted_reads, reads_shifted, no_pb, no_cb, no_pc}
 use Rattle.layers.specs.LayersKeep.{parity_agrees, shift_agrees, parity_laws, shift_laws}

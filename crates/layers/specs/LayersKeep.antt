@@ -13,7 +13,7 @@ use Rattle.layers.specs.declared.recoding.moves.Form.TheVariants.{One}
 use Rattle.layers.specs.Depth.{own, up, over}
 use Rattle.layers.specs.CharacterList.{on_list}
 use Rattle.layers.specs.Layers.{parity_step, parity_form, parity_bytes, parity, shift_bytes, shift, kept, sub, is_refused, is_none, added, control, else_char, controls}
-use Rattle.charset.proofs.Front.{none_some, reading_reads, reading_is, reading_bad, bad_grows, alone}
+use Rattle.charset.proofs.FrontLemmas.{none_some, reading_reads, reading_is, reading_bad, bad_grows, alone}
 use Rattle.layers.specs.Recoding.{Agrees}
 use Rattle.layers.specs.Recode.{recoded_laws, over_small}
 

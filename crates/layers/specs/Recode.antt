@@ -13,7 +13,7 @@ use Rattle.layers.specs.declared.recoding.moves.Form.{Form}
 use Rattle.layers.specs.declared.recoding.moves.Form.TheVariants.{One, Two, Never}
 use Rattle.layers.specs.Depth.{up, over}
 use Rattle.layers.specs.Recoding.{End, clean, pending, broken, Recoding, put, stop, below, ends, before, shifted, is_clean, is_broken, at_most_four, shift_of, scan_cause, recoded, Agrees}
-use Rattle.charset.proofs.Front.{none_some, reading_reads, reading_bad, bad_grows, alone}
+use Rattle.charset.proofs.FrontLemmas.{none_some, reading_reads, reading_bad, bad_grows, alone}
 
 pub over_small : {m : Meaning} → Laws m → (t : List ℕ) (q : SetRefusal) → q.cause < 256 → q.depth < 256
     → ((over (reading m t) q).cause < 256) × ((over (reading m t) q).depth < 256)

@@ -4,7 +4,7 @@ use lib.Count.{ones}
 use Rattle.charset.specs.declared.Reading.TheVariants.{Found, Open}
 use Rattle.charset.specs.Answers.{Answer, Reads, reading}
 use Rattle.charset.specs.Meaning.{Meaning, Laws}
-use Rattle.charset.proofs.Front.{reading_reads}
+use Rattle.charset.proofs.FrontLemmas.{reading_reads}
 use Rattle.sets.specs.declared.cause.Cause.TheVariants.{NotInUse, NoPair}
 use Rattle.sets.specs.Causes.{refusal}
 use Rattle.sets.specs.Search.{first_from}

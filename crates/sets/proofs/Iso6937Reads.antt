@@ -1,7 +1,7 @@
 -- What ISO/IEC 6937 cannot read, and why. Assumes nothing.
 use Rattle.std.proofs.Common.{◌≡◌, ℕ, ◌<◌, ◌≤◌, List, [], ◌∷◌, length, get_or, is_some, Some, None, refl, ap, ◌∙◌, arith}
 use Rattle.charset.specs.Meaning.{Unreadable}
-use Rattle.charset.proofs.Front.{unreadable_here}
+use Rattle.charset.proofs.FrontLemmas.{unreadable_here}
 use Rattle.sets.specs.declared.cause.Cause.TheVariants.{NotInUse, NoPair}
 use Rattle.sets.specs.Causes.{refusal}
 use Rattle.sets.specs.Iso6937.{single, letters_of, among, accented, iso6937_causes, iso6937}

@@ -2,7 +2,7 @@
 use Rattle.std.proofs.Common.{◌≡◌, ℕ, ◌≤◌, Bool, true, false, List, [], ◌∷◌, length, get_or, None, refl, arith}
 use Rattle.std.proofs.lemmas.Bool.Decides.{nat_tests}
 use Rattle.charset.specs.Meaning.{Unreadable}
-use Rattle.charset.proofs.Front.{unreadable_here}
+use Rattle.charset.proofs.FrontLemmas.{unreadable_here}
 use Rattle.sets.specs.Search.{when}
 use Rattle.sets.specs.Utf8.{lead, second, tail, utf8}
 use Rattle.sets.specs.Utf8Laws.{utf8_laws}

@@ -4,7 +4,7 @@ use Rattle.std.proofs.Common.{sym, ◌∙◌, arith}
 use Rattle.std.specs.Option.{option_map}
 use Rattle.std.specs.List.{AllByRecursion}
 use Rattle.charset.specs.Meaning.{NoFront, Unreadable, Laws}
-use Rattle.charset.proofs.Front.{alone}
+use Rattle.charset.proofs.FrontLemmas.{alone}
 use Rattle.sets.specs.declared.cause.Cause.TheVariants.{NotInUse, NoPair}
 use Rattle.sets.specs.Causes.{refusal}
 use Rattle.sets.specs.Search.{or_else}

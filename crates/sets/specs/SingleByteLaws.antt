@@ -4,7 +4,7 @@ use Rattle.std.proofs.Common.{sym, ap, ◌∙◌, arith}
 use Rattle.std.specs.Option.{option_map}
 use Rattle.std.specs.List.{AllByRecursion}
 use Rattle.charset.specs.Meaning.{NoFront, Unreadable, Laws}
-use Rattle.charset.proofs.Front.{alone, unreadable_here}
+use Rattle.charset.proofs.FrontLemmas.{alone, unreadable_here}
 use Rattle.sets.specs.Columns.{character_at, byte_of, one_to_one}
 use Rattle.sets.specs.SingleByte.{single_byte_character, single_byte_openings, single_byte}
 use Rattle.sets.specs.CodeTable.{placed, standing}

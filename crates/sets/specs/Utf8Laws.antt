@@ -5,7 +5,7 @@ use Rattle.std.specs.List.{AllByRecursion}
 use Rattle.std.proofs.lemmas.Bool.{lt-ltb, le-ltb, cases_lt, cases_Bool}
 use Rattle.std.proofs.lemmas.Bool.Decides.{nat_tests}
 use Rattle.charset.specs.Meaning.{NoFront, Laws}
-use Rattle.charset.proofs.Front.{alone}
+use Rattle.charset.proofs.FrontLemmas.{alone}
 use Rattle.sets.specs.Search.{when}
 use Rattle.sets.specs.Utf8.{least_second, two_octets, three_octets, four_octets, surrogate, low_bits, utf8_character, utf8_string, utf8_openings, utf8, OpeningsBeginCodings}
 use Rattle.sets.specs.Tables.{no_none, no_true, some_same}

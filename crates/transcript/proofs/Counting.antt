@@ -4,7 +4,7 @@ use lib.Seq.{drop-append_seam}
 use Rattle.std.proofs.lemmas.Bool.{ltb-false}
 use Rattle.charset.specs.Meaning.{Meaning, Laws}
 use Rattle.charset.specs.Decoding.{Spells}
-use Rattle.charset.proofs.Front.{none_some}
+use Rattle.charset.proofs.FrontLemmas.{none_some}
 use Rattle.conversion.specs.declared.Pause.TheVariants as pause
 use Rattle.conversion.specs.declared.Run.{Run}
 use Rattle.conversion.specs.Stops.{End, Stops}

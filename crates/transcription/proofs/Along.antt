@@ -5,7 +5,7 @@ use Rattle.std.proofs.lemmas.Bool.{le-ltb}
 use Rattle.charset.specs.declared.Reading.TheVariants.{Found}
 use Rattle.charset.specs.Meaning.{Meaning, Unreadable, Laws}
 use Rattle.charset.specs.Answers.{Reads}
-use Rattle.charset.proofs.Front.{bad_grows}
+use Rattle.charset.proofs.FrontLemmas.{bad_grows}
 use Rattle.conversion.specs.declared.Fault.{Fault}
 use Rattle.conversion.specs.declared.Fault.TheVariants.{Unread, Unwritten, Unfinished}
 use Rattle.conversion.specs.Stops.{Stops}

@@ -5,7 +5,7 @@ use Rattle.charset.specs.declared.Reading.TheVariants.{Found, Open}
 use Rattle.charset.specs.Meaning.{Meaning, Codes, Laws}
 use Rattle.charset.specs.Answers.{Answer, reading}
 use Rattle.charset.specs.Decoding.{Spells}
-use Rattle.charset.proofs.Front.{reading_is}
+use Rattle.charset.proofs.FrontLemmas.{reading_is}
 use Rattle.charset.proofs.Spelling.{spells_split, spells_one, fronts}
 use Rattle.conversion.specs.declared.Fault.{Fault}
 use Rattle.conversion.specs.declared.Fault.TheVariants.{Unread, Unwritten, Unfinished}

@@ -4,7 +4,7 @@ use Rattle.std.proofs.Common.{arith}
 use Rattle.std.specs.List.{AllByRecursion}
 use Rattle.std.proofs.lemmas.Bool.Decides.{nat_tests}
 use Rattle.charset.specs.Meaning.{NoFront, Unreadable, Laws}
-use Rattle.charset.proofs.Front.{alone, none_some, unreadable_here}
+use Rattle.charset.proofs.FrontLemmas.{alone, none_some, unreadable_here}
 use Rattle.worked_examples.specs.Odd.{odd_single, odd_pair, odd_opens, odd_character, odd_string, odd_openings, odd}
 
 no_true : false ≡ true → ⊥

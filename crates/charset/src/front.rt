@@ -1,0 +1,96 @@
+// The first bytes of a string, up to four: as many as decide what stands in front of it.
+ghost use Rattle.std.specs.Prelude.{◌≡◌, ◌≤◌, [], ◌∷◌, ◌++◌, length, take, drop};
+ghost use Rattle.charset.specs.Strings.{joined};
+
+use std::marker::Model;
+
+// In contracts a front is its list of bytes.
+#[derive(Clone, Copy)]
+pub struct Front {
+    bytes: [u8; 4],
+    len: usize,
+}
+
+// The places behind the bytes hold 0, so that the list tells all of a front.
+impl Model for Front {
+    ghost use Rattle.std.specs.Prelude.{ℕ, List, take, length};
+    ghost use Rattle.std.proofs.Common.{ap₂};
+    ghost use Rattle.charset.specs.Padding.{Padded, padded, places_back, size_back};
+
+    ghost Value = { List ℕ };
+
+    ghost view = { λ f. take f.len f.bytes };
+
+    ghost invariant = { λ f. Padded f.bytes f.len };
+
+    ghost inverse = { λ s. record { bytes = padded s; len = length s } };
+
+    ghost inverse_ok = { λ f h. ap₂ (λ b n. record { bytes = b; len = n }) (places_back f.bytes f.len h) (size_back f.bytes f.len h) };
+}
+
+impl Front {
+    pub fn empty() -> Front
+        ensures { result ≡ [] }
+    {
+        Front {
+            bytes: [0; 4],
+            len: 0,
+        }
+    }
+
+    pub(crate) fn of_one(first: u8) -> Front
+        ensures { result ≡ first ∷ [] }
+    {
+        Front {
+            bytes: [first, 0, 0, 0],
+            len: 1,
+        }
+    }
+
+    // With one more byte behind; none if it has four already.
+    pub fn then(self, byte: u8) -> Option<Front>
+        ensures { result ≡ joined self byte }
+    {
+        if self.len >= 4 {
+            return None;
+        }
+        let mut bytes = self.bytes;
+        bytes[self.len] = byte;
+        Some(Front {
+            bytes,
+            len: self.len + 1,
+        })
+    }
+
+    // With more bytes behind, as far as four go.
+    pub fn followed_by(self, more: &[u8]) -> Front
+        ensures { result ≡ take 4 (self ++ more.now) }
+    {
+        let len = (4 - self.len).min(more.len());
+        let mut bytes = self.bytes;
+        bytes[self.len..self.len + len].copy_from_slice(&more[..len]);
+        Front {
+            bytes,
+            len: self.len + len,
+        }
+    }
+
+    // The bytes from a place on in these and then more, as far as four go.
+    pub fn window(self, more: &[u8], at: usize) -> Front
+        ensures { result ≡ take 4 (drop at (self ++ more.now)) }
+    {
+        let first = self.as_bytes();
+        let start = at.min(first.len());
+        let behind = (at - start).min(more.len());
+        Front::empty()
+            .followed_by(&first[start..])
+            .followed_by(&more[behind..])
+    }
+
+    pub fn as_bytes(&self) -> &[u8]
+        ensures bytes { result.now ≡ self.now }
+        ensures few { length result.now ≤ 4 }
+    {
+        &self.bytes[0..self.len]
+    }
+}
