@@ -1,63 +1,57 @@
 // Prints all that ISO/IEC 6937 reads in one and two bytes, and all that it writes, with equal neighbours on one line.
 #![tactic(auto)]
 
-use charset::{CharacterSet, Reading, SetRefusal};
+use charset::{CharacterSet, Coding, Reading, SetRefusal};
 use sets::Iso6937;
-use std::io;
+use std::{fmt, io};
 
-fn tell(rt: &HostRuntime, answer: Result<Reading, SetRefusal>) -> io::Result<()> {
-    match answer {
-        Ok(reading) => match reading {
-            Reading::Found { character, length } => println!(rt; "U+{character:04X} {length}"),
-            Reading::Open => println!(rt; "open"),
-        },
-        Err(refusal) => {
-            let cause = refusal.cause;
-            let depth = refusal.depth;
-            println!(rt; "refused {cause} {depth}")
+#[derive(Clone, Copy, PartialEq)]
+struct Answer(Result<Reading, SetRefusal>);
+
+impl fmt::Display for Answer {
+    fn fmt<W: fmt::Write>(&self, f: &mut fmt::Formatter<W>) -> fmt::Result {
+        match self.0 {
+            Ok(Reading::Found { character, length }) => write!(f, "U+{character:04X} {length}"),
+            Ok(Reading::Open) => f.write_str("open"),
+            Err(SetRefusal { cause, depth }) => write!(f, "refused {cause} {depth}"),
         }
+    }
+}
+
+#[derive(Clone, Copy)]
+struct Bytes(Coding);
+
+impl fmt::Display for Bytes {
+    fn fmt<W: fmt::Write>(&self, f: &mut fmt::Formatter<W>) -> fmt::Result {
+        for byte in self.0.as_bytes() {
+            write!(f, " {byte:02X}")?;
+        }
+        Ok(())
     }
 }
 
 fn read_one(rt: &HostRuntime, byte: u8) -> io::Result<()> {
-    print!(rt; "{byte:02X} ")?;
-    tell(rt, Iso6937.read(&[byte]))
-}
-
-fn tell_run(
-    rt: &HostRuntime,
-    first: u8,
-    from: u8,
-    to: u8,
-    answer: Result<Reading, SetRefusal>,
-) -> io::Result<()> {
-    print!(rt; "{first:02X} {from:02X}-{to:02X} ")?;
-    tell(rt, answer)
+    let answer = Answer(Iso6937.read(&[byte]));
+    println!(rt; "{byte:02X} {answer}")
 }
 
 fn read_two(rt: &HostRuntime, first: u8) -> io::Result<()> {
-    let mut from = 0u8;
-    let mut answer = Iso6937.read(&[first, 0]);
-    for second in 1..=255u8 {
-        let next = Iso6937.read(&[first, second]);
-        if next != answer {
-            tell_run(rt, first, from, second - 1, answer)?;
-            from = second;
-            answer = next;
-        }
+    let answers = (0..=255u8)
+        .map(|second| (second, Answer(Iso6937.read(&[first, second]))))
+        .collect::<Vec<_>>(rt.alloc())?;
+    for run in answers.chunk_by(|a, b| a.1 == b.1) {
+        let (from, answer) = run[0];
+        let (to, _) = run[run.len() - 1];
+        println!(rt; "{first:02X} {from:02X}-{to:02X} {answer}")?;
     }
-    tell_run(rt, first, from, 255, answer)
+    Ok(())
 }
 
 fn write_one(rt: &HostRuntime, number: u32) -> io::Result<()> {
-    if let Some(coding) = Iso6937.write(number) {
-        print!(rt; "U+{number:04X}")?;
-        for byte in coding.as_bytes() {
-            print!(rt; " {byte:02X}")?;
-        }
-        println!(rt; "")?;
+    match Iso6937.write(number).map(Bytes) {
+        Some(bytes) => println!(rt; "U+{number:04X}{bytes}"),
+        None => Ok(()),
     }
-    Ok(())
 }
 
 fn main(rt: HostRuntime) -> io::Result<()> {
@@ -68,8 +62,8 @@ fn main(rt: HostRuntime) -> io::Result<()> {
         read_two(&rt, first)?;
     }
     // Every character, and what lies beyond.
-    for number in 0..=0x11_0000u32 {
+    for number in (0..=0x11_0000).chain([u32::MAX]) {
         write_one(&rt, number)?;
     }
-    write_one(&rt, u32::MAX)
+    Ok(())
 }

@@ -13,13 +13,13 @@ no_true e = let z : ◌≡◌ {A = ℕ} 0 1 = cc in omega arith
 pub some_same : {A : Type 0} {x y : A} → Some x ≡ Some y → x ≡ y
 some_same e = cc
 
--- what a test on a number tells
+-- what a test tells, and one on a number
+pub when_true : {A : Type 0} (t : Bool) (x y : A) → when t x ≡ Some y → (t ≡ true) × (x ≡ y)
+when_true true x y e = (refl, some_same e)
+when_true false x y e = absurd (no_none e)
+
 pub when_some : {A : Type 0} (a b : ℕ) (x y : A) → when (a == b) x ≡ Some y → (a ≡ b) × (x ≡ y)
-when_some a b x y e = go (a == b) refl e
-  where
-    go : (t : Bool) → (a == b) ≡ t → when t x ≡ Some y → (a ≡ b) × (x ≡ y)
-    go true h f = (eqb-true a b h, some_same f)
-    go false h f = absurd (no_none f)
+when_some a b x y e = let h = when_true (a == b) x y e in (eqb-true a b h.0, h.1)
 
 -- every element passes
 abbrev pub every : {A : Type 0} → (A → Bool) → List A → Bool

@@ -8,11 +8,7 @@ use Rattle.charset.specs.Meaning.{NoFront, Laws}
 use Rattle.charset.proofs.FrontLemmas.{alone}
 use Rattle.sets.specs.Search.{when}
 use Rattle.sets.specs.Utf8.{least_second, two_octets, three_octets, four_octets, surrogate, low_bits, utf8_character, utf8_string, utf8_openings, utf8, OpeningsBeginCodings}
-use Rattle.sets.specs.Tables.{no_none, no_true, some_same}
-
-when_some : (t : Bool) (n c : ℕ) → when t n ≡ Some c → (t ≡ true) × (n ≡ c)
-when_some true n c e = (refl, some_same e)
-when_some false n c e = absurd (no_none e)
+use Rattle.sets.specs.Tables.{no_none, no_true, some_same, when_true}
 
 -- each row of the table of section 3, from the number to the octets and back
 written_two : (c : ℕ) → 0x80 ≤ c → c < 0x800 → utf8_character ((0xc0 + c / 64) ∷ low_bits c ∷ []) ≡ Some c
@@ -103,10 +99,10 @@ read_four a b c d t = grind (arith, nat_tests)
 
 read : (s : List ℕ) (c : ℕ) → utf8_character s ≡ Some c → utf8_string c ≡ Some s
 read [] n e = absurd (no_none e)
-read (a ∷ []) n e = let h = when_some _ _ n e in rw (← h.1) (read_one a h.0)
-read (a ∷ b ∷ []) n e = let h = when_some _ _ n e in rw (← h.1) (read_two a b h.0)
-read (a ∷ b ∷ c ∷ []) n e = let h = when_some _ _ n e in rw (← h.1) (read_three a b c h.0)
-read (a ∷ b ∷ c ∷ d ∷ []) n e = let h = when_some _ _ n e in rw (← h.1) (read_four a b c d h.0)
+read (a ∷ []) n e = let h = when_true _ _ n e in rw (← h.1) (read_one a h.0)
+read (a ∷ b ∷ []) n e = let h = when_true _ _ n e in rw (← h.1) (read_two a b h.0)
+read (a ∷ b ∷ c ∷ []) n e = let h = when_true _ _ n e in rw (← h.1) (read_three a b c h.0)
+read (a ∷ b ∷ c ∷ d ∷ []) n e = let h = when_true _ _ n e in rw (← h.1) (read_four a b c d h.0)
 read (a ∷ b ∷ c ∷ d ∷ x ∷ s) n e = absurd (no_none e)
 
 sized : (s : List ℕ) (c : ℕ) → utf8_character s ≡ Some c → (0 < length s) × (length s ≤ 4)
@@ -119,10 +115,10 @@ sized (a ∷ b ∷ c ∷ d ∷ x ∷ s) n e = absurd (no_none e)
 
 bytes : (s : List ℕ) (c : ℕ) → utf8_character s ≡ Some c → AllByRecursion (λ b. b < 256) s
 bytes [] n e = absurd (no_none e)
-bytes (a ∷ []) n e = let h = (when_some _ _ n e).0 in (grind (arith, nat_tests), tt)
-bytes (a ∷ b ∷ []) n e = let h = (when_some _ _ n e).0 in (grind (arith, nat_tests), (grind (arith, nat_tests), tt))
-bytes (a ∷ b ∷ c ∷ []) n e = let h = (when_some _ _ n e).0 in (grind (arith, nat_tests), (grind (arith, nat_tests), (grind (arith, nat_tests), tt)))
-bytes (a ∷ b ∷ c ∷ d ∷ []) n e = let h = (when_some _ _ n e).0 in (grind (arith, nat_tests), (grind (arith, nat_tests), (grind (arith, nat_tests), (grind (arith, nat_tests), tt))))
+bytes (a ∷ []) n e = let h = (when_true _ _ n e).0 in (grind (arith, nat_tests), tt)
+bytes (a ∷ b ∷ []) n e = let h = (when_true _ _ n e).0 in (grind (arith, nat_tests), (grind (arith, nat_tests), tt))
+bytes (a ∷ b ∷ c ∷ []) n e = let h = (when_true _ _ n e).0 in (grind (arith, nat_tests), (grind (arith, nat_tests), (grind (arith, nat_tests), tt)))
+bytes (a ∷ b ∷ c ∷ d ∷ []) n e = let h = (when_true _ _ n e).0 in (grind (arith, nat_tests), (grind (arith, nat_tests), (grind (arith, nat_tests), (grind (arith, nat_tests), tt))))
 bytes (a ∷ b ∷ c ∷ d ∷ x ∷ s) n e = absurd (no_none e)
 
 characters : (s : List ℕ) (c : ℕ) → utf8_character s ≡ Some c → c ≤ 0x10ffff
@@ -149,14 +145,14 @@ coding_begins : (s : List ℕ) (c n : ℕ) → utf8_character s ≡ Some c → n
 coding_begins s v zero e k = refl
 coding_begins [] v (suc n) e k = absurd (no_none e)
 coding_begins (a ∷ []) v (suc n) e k = absurd (omega arith)
-coding_begins (a ∷ b ∷ []) v (suc zero) e k = let h = (when_some _ _ v e).0 in grind (arith, nat_tests)
+coding_begins (a ∷ b ∷ []) v (suc zero) e k = let h = (when_true _ _ v e).0 in grind (arith, nat_tests)
 coding_begins (a ∷ b ∷ []) v (suc (suc n)) e k = absurd (omega arith)
-coding_begins (a ∷ b ∷ c ∷ []) v (suc zero) e k = let h = (when_some _ _ v e).0 in grind (arith, nat_tests)
-coding_begins (a ∷ b ∷ c ∷ []) v (suc (suc zero)) e k = let h = (when_some _ _ v e).0 in grind (arith, nat_tests)
+coding_begins (a ∷ b ∷ c ∷ []) v (suc zero) e k = let h = (when_true _ _ v e).0 in grind (arith, nat_tests)
+coding_begins (a ∷ b ∷ c ∷ []) v (suc (suc zero)) e k = let h = (when_true _ _ v e).0 in grind (arith, nat_tests)
 coding_begins (a ∷ b ∷ c ∷ []) v (suc (suc (suc n))) e k = absurd (omega arith)
-coding_begins (a ∷ b ∷ c ∷ d ∷ []) v (suc zero) e k = let h = (when_some _ _ v e).0 in grind (arith, nat_tests)
-coding_begins (a ∷ b ∷ c ∷ d ∷ []) v (suc (suc zero)) e k = let h = (when_some _ _ v e).0 in grind (arith, nat_tests)
-coding_begins (a ∷ b ∷ c ∷ d ∷ []) v (suc (suc (suc zero))) e k = let h = (when_some _ _ v e).0 in grind (arith, nat_tests)
+coding_begins (a ∷ b ∷ c ∷ d ∷ []) v (suc zero) e k = let h = (when_true _ _ v e).0 in grind (arith, nat_tests)
+coding_begins (a ∷ b ∷ c ∷ d ∷ []) v (suc (suc zero)) e k = let h = (when_true _ _ v e).0 in grind (arith, nat_tests)
+coding_begins (a ∷ b ∷ c ∷ d ∷ []) v (suc (suc (suc zero))) e k = let h = (when_true _ _ v e).0 in grind (arith, nat_tests)
 coding_begins (a ∷ b ∷ c ∷ d ∷ []) v (suc (suc (suc (suc n)))) e k = absurd (omega arith)
 coding_begins (a ∷ b ∷ c ∷ d ∷ x ∷ s) v (suc n) e k = absurd (no_none e)
 
@@ -177,9 +173,9 @@ opening_begins (a ∷ b ∷ c ∷ d ∷ s) (suc n) o = absurd (no_true o)
 -- an opening is no coding
 no_coding : (s : List ℕ) (v : ℕ) → utf8_openings s ≡ true → utf8_character s ≢ Some v
 no_coding [] v o e = no_none e
-no_coding (a ∷ []) v o e = let h = (when_some _ _ v e).0 in grind (arith, nat_tests)
-no_coding (a ∷ b ∷ []) v o e = let h = (when_some _ _ v e).0 in grind (arith, nat_tests)
-no_coding (a ∷ b ∷ c ∷ []) v o e = let h = (when_some _ _ v e).0 in grind (arith, nat_tests)
+no_coding (a ∷ []) v o e = let h = (when_true _ _ v e).0 in grind (arith, nat_tests)
+no_coding (a ∷ b ∷ []) v o e = let h = (when_true _ _ v e).0 in grind (arith, nat_tests)
+no_coding (a ∷ b ∷ c ∷ []) v o e = let h = (when_true _ _ v e).0 in grind (arith, nat_tests)
 no_coding (a ∷ b ∷ c ∷ d ∷ s) v o e = no_true o
 
 opening_bare : (s : List ℕ) → utf8_openings s ≡ true → NoFront utf8 s

@@ -4,27 +4,23 @@ ghost use Rattle.sets.specs.Causes.{refusal};
 
 use charset::SetRefusal;
 
-#[derive(Clone, Copy)]
+// The numbers are those of the refusals.
+#[derive(Clone, Copy, PartialEq, Eq, Debug)]
 pub enum Cause {
     // The first byte is no position in use.
-    NotInUse,
+    NotInUse = 31,
     // A diacritic stands before a byte with which it makes no pair.
-    NoPair,
+    NoPair = 32,
     // The bytes begin no UTF-8 character.
-    Malformed,
+    Malformed = 33,
 }
 
 impl From<Cause> for SetRefusal {
     ghost from_gives = { λ cause r. r ≡ refusal cause };
 
     fn from(cause: Cause) -> SetRefusal {
-        let number = match cause {
-            Cause::NotInUse => 31,
-            Cause::NoPair => 32,
-            Cause::Malformed => 33,
-        };
         SetRefusal {
-            cause: number,
+            cause: cause as u8,
             depth: 0,
         }
     }

@@ -3,50 +3,47 @@
 ghost use Rattle.std.specs.Prelude.{◌≡◌};
 ghost use Rattle.sets.specs.Columns.{upper_at, character_at, upper_of, byte_of};
 
-fn upper_at(columns: &[[u32; 16]; 6], byte: u8) -> Option<u32>
-    ensures { result ≡ upper_at columns.now byte }
-{
-    if byte < 0xA0 {
-        return None;
-    }
-    let position = (byte - 0xA0) as usize;
-    let character = columns[position / 16][position % 16];
-    if character == 0 {
-        None
-    } else {
-        Some(character)
-    }
+#[derive(Clone, Copy)]
+pub struct CodeTable {
+    pub columns: [[u32; 16]; 6],
 }
 
-// The first byte from A0 on that has the character.
-fn upper_of(columns: &[[u32; 16]; 6], character: u32) -> Option<u8>
-    ensures { result ≡ upper_of columns.now character }
-{
-    for position in 0..96u8 {
-        let byte = 0xA0 + position;
-        if upper_at(columns, byte) == Some(character) {
-            return Some(byte);
+impl CodeTable {
+    fn upper_at(&self, byte: u8) -> Option<u32>
+        ensures { result ≡ upper_at self.now.columns byte }
+    {
+        if byte < 0xA0 {
+            return None;
+        }
+        let position = (byte - 0xA0) as usize;
+        let character = self.columns[position / 16][position % 16];
+        (character != 0).then_some(character)
+    }
+
+    // The first byte from A0 on that has the character. Over `0..96`, since `0xA0..=0xFF` runs half as many instructions again.
+    fn upper_of(&self, character: u32) -> Option<u8>
+        ensures { result ≡ upper_of self.now.columns character }
+    {
+        (0..96u8)
+            .map(|position| 0xA0 + position)
+            .find(|byte| self.upper_at(*byte) == Some(character))
+    }
+
+    pub fn character_at(&self, byte: u8) -> Option<u32>
+        ensures { result ≡ character_at self.now.columns byte }
+    {
+        match byte {
+            0x20..=0x7E => Some(byte as u32),
+            _ => self.upper_at(byte),
         }
     }
-    None
-}
 
-pub fn character_at(columns: &[[u32; 16]; 6], byte: u8) -> Option<u32>
-    ensures { result ≡ character_at columns.now byte }
-{
-    if byte >= 0x20 && byte < 0x7F {
-        Some(byte as u32)
-    } else {
-        upper_at(columns, byte)
-    }
-}
-
-pub fn byte_of(columns: &[[u32; 16]; 6], character: u32) -> Option<u8>
-    ensures { result ≡ byte_of columns.now character }
-{
-    if character >= 0x20 && character < 0x7F {
-        Some(character as u8)
-    } else {
-        upper_of(columns, character)
+    pub fn byte_of(&self, character: u32) -> Option<u8>
+        ensures { result ≡ byte_of self.now.columns character }
+    {
+        match character {
+            0x20..=0x7E => Some(character as u8),
+            _ => self.upper_of(character),
+        }
     }
 }

@@ -5,6 +5,7 @@ ghost use Rattle.sets.specs.Iso6937Laws.{iso6937_laws};
 mod table;
 
 use crate::cause::Cause;
+use crate::reading::found;
 use charset::{CharacterSet, Coding, Reading, SetRefusal};
 use table::{accented, letters_of, pair_of, single, single_byte};
 
@@ -25,24 +26,14 @@ impl CharacterSet for Iso6937 {
             return Ok(Reading::Open);
         };
         if let Some(character) = single(*first) {
-            return Ok(Reading::Found {
-                character,
-                length: 1,
-            });
+            return found(character, 1);
         }
-        let Some(letters) = letters_of(*first) else {
-            return Err(Cause::NotInUse.into());
-        };
+        let letters = letters_of(*first).ok_or(Cause::NotInUse)?;
         let [_, letter, ..] = bytes else {
             return Ok(Reading::Open);
         };
-        match accented(letters, *letter) {
-            Some(character) => Ok(Reading::Found {
-                character,
-                length: 2,
-            }),
-            None => Err(Cause::NoPair.into()),
-        }
+        let character = accented(letters, *letter).ok_or(Cause::NoPair)?;
+        found(character, 2)
     }
 
     fn write(&self, number: u32) -> Option<Coding> {

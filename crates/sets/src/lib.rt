@@ -4,6 +4,7 @@
 mod cause;
 mod columns;
 mod iso6937;
+mod reading;
 mod single_byte;
 mod utf8;
 

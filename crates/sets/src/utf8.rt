@@ -1,10 +1,11 @@
 // UTF-8, by RFC 3629.
-ghost use Rattle.std.specs.Prelude.{◌≡◌};
+ghost use Rattle.std.specs.Prelude.{◌≡◌, ◌+◌, ◌-◌, ◌*◌, ◌^◌, ◌<◌, ◌≤◌};
 ghost use Rattle.charset.specs.Answers.{Reads};
 ghost use Rattle.sets.specs.Utf8.{utf8, OpeningsBeginCodings, utf8_codings, utf8_openings, utf8_causes, lead, second, tail, low_bits};
 ghost use Rattle.sets.specs.Utf8Laws.{utf8_laws};
 
 use crate::cause::Cause;
+use crate::reading::found;
 use charset::{CharacterSet, Coding, Reading, SetRefusal};
 
 #[derive(Clone, Copy)]
@@ -14,88 +15,56 @@ pub struct Utf8;
 fn is_lead(a: u8) -> bool
     ensures { result ≡ lead a }
 {
-    0xC2 <= a && a <= 0xF4
+    matches!(a, 0xC2..=0xF4)
 }
 
 // Whether b may follow the first octet a.
 fn is_second(a: u8, b: u8) -> bool
     ensures { result ≡ second a b }
 {
-    let least = match a {
-        0xE0 => 0xA0,
-        0xF0 => 0x90,
-        _ => 0x80,
+    let seconds = match a {
+        0xE0 => 0xA0..=0xBF,
+        0xED => 0x80..=0x9F,
+        0xF0 => 0x90..=0xBF,
+        0xF4 => 0x80..=0x8F,
+        _ => 0x80..=0xBF,
     };
-    let greatest = match a {
-        0xED => 0x9F,
-        0xF4 => 0x8F,
-        _ => 0xBF,
-    };
-    least <= b && b <= greatest
+    seconds.contains(&b)
 }
 
 fn is_tail(b: u8) -> bool
     ensures { result ≡ tail b }
 {
-    0x80 <= b && b <= 0xBF
+    matches!(b, 0x80..=0xBF)
+}
+
+// The bits so far with the six of one more octet behind.
+fn with_bits(so_far: u32, octet: u8) -> u32
+    requires few { so_far < 2 ^ 20 }
+    requires octet { 0x80 ≤ octet }
+    ensures { result ≡ so_far * 64 + (octet - 0x80) }
+{
+    so_far * 64 + (octet as u32 - 0x80)
 }
 
 // The character in front, octet by octet.
 fn front(bytes: &[u8]) -> Result<Reading, SetRefusal>
     ensures { Reads utf8 bytes.now result }
 {
-    let [a, ..] = bytes else {
-        return Ok(Reading::Open);
-    };
-    if *a < 0x80 {
-        return Ok(Reading::Found {
-            character: *a as u32,
-            length: 1,
-        });
+    match *bytes {
+        [] => Ok(Reading::Open),
+        [a, ..] if a < 0x80 => found(a as u32, 1),
+        [a, ..] if !is_lead(a) => Err(Cause::Malformed.into()),
+        [_] => Ok(Reading::Open),
+        [a, b, ..] if !is_second(a, b) => Err(Cause::Malformed.into()),
+        [a, b, ..] if a < 0xE0 => found(with_bits(a as u32 - 0xC0, b), 2),
+        [_, _] => Ok(Reading::Open),
+        [_, _, c, ..] if !is_tail(c) => Err(Cause::Malformed.into()),
+        [a, b, c, ..] if a < 0xF0 => found(with_bits(with_bits(a as u32 - 0xE0, b), c), 3),
+        [_, _, _] => Ok(Reading::Open),
+        [_, _, _, d, ..] if !is_tail(d) => Err(Cause::Malformed.into()),
+        [a, b, c, d, ..] => found(with_bits(with_bits(with_bits(a as u32 - 0xF0, b), c), d), 4),
     }
-    if !is_lead(*a) {
-        return Err(Cause::Malformed.into());
-    }
-    let [_, b, ..] = bytes else {
-        return Ok(Reading::Open);
-    };
-    if !is_second(*a, *b) {
-        return Err(Cause::Malformed.into());
-    }
-    if *a < 0xE0 {
-        let character = (*a as u32 - 0xC0) * 64 + (*b as u32 - 0x80);
-        return Ok(Reading::Found {
-            character,
-            length: 2,
-        });
-    }
-    let [_, _, c, ..] = bytes else {
-        return Ok(Reading::Open);
-    };
-    if !is_tail(*c) {
-        return Err(Cause::Malformed.into());
-    }
-    if *a < 0xF0 {
-        let character = (*a as u32 - 0xE0) * 4096 + (*b as u32 - 0x80) * 64 + (*c as u32 - 0x80);
-        return Ok(Reading::Found {
-            character,
-            length: 3,
-        });
-    }
-    let [_, _, _, d, ..] = bytes else {
-        return Ok(Reading::Open);
-    };
-    if !is_tail(*d) {
-        return Err(Cause::Malformed.into());
-    }
-    let character = (*a as u32 - 0xF0) * 262144
-        + (*b as u32 - 0x80) * 4096
-        + (*c as u32 - 0x80) * 64
-        + (*d as u32 - 0x80);
-    Ok(Reading::Found {
-        character,
-        length: 4,
-    })
 }
 
 // A tail octet with the six lowest bits of n.
@@ -122,27 +91,17 @@ impl CharacterSet for Utf8 {
     }
 
     fn write(&self, number: u32) -> Option<Coding> {
-        if number < 0x80 {
-            return Some(Coding::new(number as u8));
-        }
-        if number < 0x800 {
-            return Coding::new((0xC0 + number / 64) as u8).then(low_bits(number));
-        }
-        if number >= 0xD800 && number <= 0xDFFF {
-            return None;
-        }
-        if number < 0x10000 {
-            return Coding::new((0xE0 + number / 4096) as u8)
+        match number {
+            0..=0x7F => Some(Coding::new(number as u8)),
+            0x80..=0x7FF => Coding::new((0xC0 + number / 64) as u8).then(low_bits(number)),
+            0x800..=0xD7FF | 0xE000..=0xFFFF => Coding::new((0xE0 + number / 4096) as u8)
                 .then(low_bits(number / 64))?
-                .then(low_bits(number));
-        }
-        if number < 0x110000 {
-            let first = Coding::new((0xF0 + number / 262144) as u8);
-            return first
+                .then(low_bits(number)),
+            0x1_0000..=0x10_FFFF => Coding::new((0xF0 + number / 262144) as u8)
                 .then(low_bits(number / 4096))?
                 .then(low_bits(number / 64))?
-                .then(low_bits(number));
+                .then(low_bits(number)),
+            _ => None,
         }
-        None
     }
 }

@@ -4,27 +4,26 @@ ghost use Rattle.std.specs.Option.{option_map};
 ghost use Rattle.sets.specs.Columns.{byte_of};
 ghost use Rattle.sets.specs.Iso6937Table.{supplementary};
 ghost use Rattle.sets.specs.Iso6937.{single, letters_of, accented, letter_of, pair_of};
-ghost use Rattle.sets.specs.Diacritics.{letters_in, pair_in};
 
-use crate::columns::{byte_of, character_at};
+use crate::columns::CodeTable;
 
 // A diacritical mark, and the letters that it may stand before with the code point of each pair.
 #[derive(Clone, Copy)]
-pub struct Diacritic {
-    pub mark: u8,
-    pub letters: &'static [(u8, u32)],
+struct Diacritic {
+    mark: u8,
+    letters: &'static [(u8, u32)],
 }
 
 // Columns 10 to 15, rows 0 to 15; 0 where no character stands alone: a position not in use or a diacritic.
 #[rattlefmt::skip]
-const SUPPLEMENTARY: [[u32; 16]; 6] = [
+const SUPPLEMENTARY: CodeTable = CodeTable { columns: [
     [0x00A0, 0x00A1, 0x00A2, 0x00A3, 0, 0x00A5, 0, 0x00A7, 0x00A4, 0x2018, 0x201C, 0x00AB, 0x2190, 0x2191, 0x2192, 0x2193],
     [0x00B0, 0x00B1, 0x00B2, 0x00B3, 0x00D7, 0x00B5, 0x00B6, 0x00B7, 0x00F7, 0x2019, 0x201D, 0x00BB, 0x00BC, 0x00BD, 0x00BE, 0x00BF],
     [0, 0, 0, 0, 0, 0, 0, 0, 0, 0, 0, 0, 0, 0, 0, 0],
     [0x2015, 0x00B9, 0x00AE, 0x00A9, 0x2122, 0x266A, 0x00AC, 0x00A6, 0, 0, 0, 0, 0x215B, 0x215C, 0x215D, 0x215E],
     [0x2126, 0x00C6, 0x0110, 0x00AA, 0x0126, 0, 0x0132, 0x013F, 0x0141, 0x00D8, 0x0152, 0x00BA, 0x00DE, 0x0166, 0x014A, 0x0149],
     [0x0138, 0x00E6, 0x0111, 0x00F0, 0x0127, 0x0131, 0x0133, 0x0140, 0x0142, 0x00F8, 0x0153, 0x00DF, 0x00FE, 0x0167, 0x014B, 0x00AD],
-];
+] };
 
 #[rattlefmt::skip]
 const DIACRITICS: [Diacritic; 13] = [
@@ -106,74 +105,46 @@ const DIACRITICS: [Diacritic; 13] = [
 pub fn single(byte: u8) -> Option<u32>
     ensures { result ≡ single byte }
 {
-    character_at(&SUPPLEMENTARY, byte)
+    SUPPLEMENTARY.character_at(byte)
 }
 
 // The byte that codes a character alone.
 pub fn single_byte(character: u32) -> Option<u8>
     ensures { result ≡ byte_of supplementary character }
 {
-    byte_of(&SUPPLEMENTARY, character)
+    SUPPLEMENTARY.byte_of(character)
 }
 
 // The letters that a diacritic may stand before.
 pub fn letters_of(mark: u8) -> Option<&'static [(u8, u32)]>
     ensures { option_map (λ x. x.now) result ≡ letters_of mark }
 {
-    letters_in(&DIACRITICS, mark)
-}
-
-// The diacritic and the letter that code a character.
-pub fn pair_of(character: u32) -> Option<(u8, u8)>
-    ensures { result ≡ pair_of character }
-{
-    pair_in(&DIACRITICS, character)
-}
-
-// The letters of the diacritic that is this mark.
-fn letters_in(diacritics: &[Diacritic], mark: u8) -> Option<&'static [(u8, u32)]>
-    ensures { option_map (λ x. x.now) result ≡ letters_in mark diacritics.now }
-{
-    for diacritic in diacritics {
-        if diacritic.mark == mark {
-            return Some(diacritic.letters);
-        }
-    }
-    None
+    DIACRITICS.iter().find_map(|diacritic| (diacritic.mark == mark).then_some(diacritic.letters))
 }
 
 // The character of a letter under a diacritic.
 pub fn accented(letters: &[(u8, u32)], letter: u8) -> Option<u32>
     ensures { result ≡ accented letter letters.now }
 {
-    for pair in letters {
-        if pair.0 == letter {
-            return Some(pair.1);
-        }
-    }
-    None
+    letters
+        .iter()
+        .find_map(|pair| (pair.0 == letter).then_some(pair.1))
 }
 
-// The letter of a character under a diacritic.
+// The letter of a character under a diacritic. A chain beside `accented`: one function for both would take each half of the pair as a closure.
 fn letter_of(letters: &[(u8, u32)], character: u32) -> Option<u8>
     ensures { result ≡ letter_of character letters.now }
 {
-    for pair in letters {
-        if pair.1 == character {
-            return Some(pair.0);
-        }
-    }
-    None
+    letters
+        .iter()
+        .find_map(|pair| (pair.1 == character).then_some(pair.0))
 }
 
-// The diacritic and the letter of a character.
-fn pair_in(diacritics: &[Diacritic], character: u32) -> Option<(u8, u8)>
-    ensures { result ≡ pair_in character diacritics.now }
+// The diacritic and the letter that code a character.
+pub fn pair_of(character: u32) -> Option<(u8, u8)>
+    ensures { result ≡ pair_of character }
 {
-    for diacritic in diacritics {
-        if let Some(letter) = letter_of(diacritic.letters, character) {
-            return Some((diacritic.mark, letter));
-        }
-    }
-    None
+    DIACRITICS.iter().find_map(|diacritic| {
+        letter_of(diacritic.letters, character).map(|letter| (diacritic.mark, letter))
+    })
 }

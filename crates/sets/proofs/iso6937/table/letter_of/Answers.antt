@@ -1,12 +1,7 @@
+use Rattle.std.proofs.Common.{refl, rules}
 use Rattle.sets.specs.Iso6937.{by_character}
-use Rattle.sets.specs.SearchLemmas.{when_same, when_other, in_here, in_past, in_ended}
+use Rattle.sets.proofs.Searches.{first_answer}
 use Rattle.sets.proofs.iso6937.table.letter_of.Goals as goal
 
-pub returns-then-pair-character : goal.returns-then-pair-character
-returns-then-pair-character c = in_here (by_character _) _ _ c.loop-pair.invariant _ _ c.loop-pair-test.true (when_same _ c.if-pair-character.true)
-
-pub loop-pair-preserved : goal.loop-pair-preserved
-loop-pair-preserved c = in_past (by_character _) _ _ c.loop-pair.invariant _ c.loop-pair-test.true (when_other _ c.if-pair-character.false)
-
 pub returns : goal.returns
-returns c = in_ended (by_character _) _ _ c.loop-pair.invariant c.loop-pair-test.false
+returns c = first_answer _ (by_character _) (λ o. o) refl (λ y. refl) (λ x o q m. search rules) c.find_map.result c.args.letters.now c.iter.ensures.rest c.iter.ensures.runs c.find_map.ensures.runs
