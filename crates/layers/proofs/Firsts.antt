@@ -1,46 +1,39 @@
--- The first that is missing, and the first without a coding. Assumes nothing.
-use Rattle.std.proofs.Common.{◌≡◌, ℕ, ◌<◌, ◌≤◌, true, false, List, length, get_or, is_some, Some, None, Option, sym, subst, arith}
-use Rattle.std.specs.Option.{option_map}
+-- What `find` gives in numbers that rise: the smallest that passes. Assumes nothing.
+use Rattle.std.proofs.Common.{◌≡◌, ℕ, ◌<◌, true, false, List, length, Some, None, Option, MatchOption, arith}
+use Rattle.std.specs.List.{AllWithin, HoldsAt}
 use Rattle.charset.specs.Meaning.{Codings}
 use Rattle.layers.specs.CharacterList.{required, on_list, Rising, Complete}
 use Rattle.layers.specs.Filled.{FirstMissing, FirstUncoded, AllCoded}
 use Rattle.layers.proofs.Listed.{place_of, listed_at}
-use Rattle.layers.proofs.Required.{required_length, required_rising}
+use Rattle.layers.proofs.Required.{required_rising}
 use Rattle.layers.proofs.Risen.{earlier}
 
--- what holds at each of the first places of a rising list holds of each listed character below the one at i
-below : (P : ℕ → Type 0) (xs : List ℕ) (i : ℕ) → Rising xs → i < length xs → ((k : ℕ) → k < i → P (get_or xs k 0)) → (d : ℕ) → on_list xs d ≡ true → d < get_or xs i 0 → P d
-below P xs i up h so_far d l less =
-    let p = place_of xs d l in
-    let e = p.2 in
-    subst P e (so_far p.0 (earlier xs up p.0 i p.1 h (rw e less)))
+-- the first of xs is r, where each either passes or fails
+abbrev pub IsFirst : (Passes Fails : ℕ → Type 0) → List ℕ → Option ℕ → Type 0
+IsFirst Passes Fails xs r = MatchOption r (AllWithin Fails xs 0 (length xs)) (λ c. Passes c × (i : ℕ) × (i < length xs) × HoldsAt (λ y. y ≡ c) xs i × AllWithin Fails xs 0 i)
 
--- what holds at each place holds of each listed character
-throughout : (P : ℕ → Type 0) (xs : List ℕ) → ((k : ℕ) → k < length xs → P (get_or xs k 0)) → (d : ℕ) → on_list xs d ≡ true → P d
-throughout P xs h d l = let p = place_of xs d l in subst P p.2 (h p.0 p.1)
+module _ (Passes Fails : ℕ → Type 0) (xs : List ℕ) where
+  failing : AllWithin Fails xs 0 (length xs) → (d : ℕ) → on_list xs d ≡ true → Fails d
+  failing f d l = let p = place_of xs d l in rw p.2 at (f p.0 0 (omega arith) p.1)
 
-module _ (xs : List ℕ) (i : ℕ) (so_far : (k : ℕ) → k < i → on_list xs (get_or required k 0) ≡ true) where
-  pub missing_here : i < 74 → on_list xs (get_or required i 0) ≡ false → FirstMissing xs (get_or required i 0)
-  missing_here h none =
-      let inside : i < length required = omega (arith, required_length) in
-      record { needed = listed_at required i inside; absent = none; before = below (λ d. on_list xs d ≡ true) required i required_rising inside so_far }
+  failing_below : Rising xs → (c i : ℕ) → i < length xs → HoldsAt (λ y. y ≡ c) xs i → AllWithin Fails xs 0 i → (d : ℕ) → on_list xs d ≡ true → d < c → Fails d
+  failing_below up c i h e f d l less = let p = place_of xs d l in rw p.2 at (f p.0 0 (omega arith) (earlier xs up p.0 i p.1 h (rw (p.2, e 0) less)))
 
-  pub none_missing : 74 ≤ i → Complete xs
-  none_missing h = throughout (λ d. on_list xs d ≡ true) required (λ k g. so_far k (omega (arith, required_length)))
+  passing : (c i : ℕ) → i < length xs → HoldsAt (λ y. y ≡ c) xs i → on_list xs c ≡ true
+  passing c i h e = rw (e 0) at (listed_at xs i h)
 
-module _ (k : Codings) (xs : List ℕ) (i : ℕ) (so_far : (j : ℕ) → j < i → k.string (get_or xs j 0) ≡ None → ⊥) where
-  pub uncoded_here : Rising xs → i < length xs → k.string (get_or xs i 0) ≡ None → FirstUncoded k xs (get_or xs i 0)
-  uncoded_here up h none = record { listed = listed_at xs i h; uncoded = none; before = below (λ d. k.string d ≡ None → ⊥) xs i up h so_far }
+pub first_missing : (xs : List ℕ) (r : Option ℕ) → IsFirst (λ c. on_list xs c ≡ false) (λ c. on_list xs c ≡ true) required r → MatchOption r (Complete xs) (λ c. FirstMissing xs c)
+first_missing xs None f = failing (λ c. on_list xs c ≡ false) (λ c. on_list xs c ≡ true) required f
+first_missing xs (Some c) f = record {
+  needed = passing (λ c. on_list xs c ≡ false) (λ c. on_list xs c ≡ true) required c f.1 f.2 f.3;
+  absent = f.0;
+  before = failing_below (λ c. on_list xs c ≡ false) (λ c. on_list xs c ≡ true) required required_rising c f.1 f.2 f.3 f.4;
+}
 
-  pub none_uncoded : length xs ≤ i → AllCoded k xs
-  none_uncoded h = throughout (λ d. k.string d ≡ None → ⊥) xs (λ j g. so_far j (omega arith))
-
--- what writing answers tells whether there is a coding
-module _ {A B : Type 0} (f : A → B) where
-  pub unwritten : (r : Option A) (o : Option B) → option_map f r ≡ o → is_some r ≡ false → o ≡ None
-  unwritten None o e h = sym e
-  unwritten (Some x) o e h = absurd (let z : ◌≡◌ {A = ℕ} 0 1 = cc in omega arith)
-
-  pub written : (r : Option A) (o : Option B) → option_map f r ≡ o → is_some r ≡ true → o ≡ None → ⊥
-  written None o e h n = let z : ◌≡◌ {A = ℕ} 0 1 = cc in omega arith
-  written (Some x) o e h n = let z : ◌≡◌ {A = ℕ} 0 1 = cc in omega arith
+pub first_uncoded : (k : Codings) (xs : List ℕ) → Rising xs → (r : Option ℕ) → IsFirst (λ c. k.string c ≡ None) (λ c. k.string c ≡ None → ⊥) xs r → MatchOption r (AllCoded k xs) (λ c. FirstUncoded k xs c)
+first_uncoded k xs up None f = failing (λ c. k.string c ≡ None) (λ c. k.string c ≡ None → ⊥) xs f
+first_uncoded k xs up (Some c) f = record {
+  listed = passing (λ c. k.string c ≡ None) (λ c. k.string c ≡ None → ⊥) xs c f.1 f.2 f.3;
+  uncoded = f.0;
+  before = failing_below (λ c. k.string c ≡ None) (λ c. k.string c ≡ None → ⊥) xs up c f.1 f.2 f.3 f.4;
+}

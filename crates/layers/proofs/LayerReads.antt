@@ -45,6 +45,9 @@ reads_sub ds {m} l s r h = go r (reading_is l s r h) h
     go (Ok Open) e h = h
     go (Err q) e h = ((λ j d p. h.0.0 j d (kept_parts ds l (take j s) d p).1, h.0.1), rw e)
 
+pub sub_answer : (ds : List ℕ) {m : Meaning} (l : Laws m) (s : List ℕ) (r t : Answer) → Reads m s r → t ≡ sub_read ds r → Reads (sub ds m) s t
+sub_answer ds l s r t h e = rw e (reads_sub ds l s r h)
+
 abbrev pub control_read : List Bool → Meaning → List ℕ → Answer → Answer
 control_read cs m s (Ok (Found c n)) = Ok (Found c n)
 control_read cs m s (Ok Open) = (Ok Open)
@@ -55,7 +58,7 @@ pub reads_controls : (cs : List Bool) {m : Meaning} (l : Laws m) (s : List ℕ) 
 reads_controls cs {m} l s r h = go s r h
   where
     alone : (j c d : ℕ) (s : List ℕ) → take j (c ∷ s) ≡ d ∷ [] → c ≡ d
-    alone zero c d s e = absurd (let z : ◌≡◌ {A = ℕ} 0 1 = cc in omega arith)
+    alone zero c d s e = cc
     alone (suc j) c d s e = cc
 
     maybe : (c : ℕ) (s : List ℕ) (q : SetRefusal) → Unreadable m (c ∷ s) → q ≡ m.causes (c ∷ s) → (b : Bool) → added cs m c ≡ b → Reads (controls cs m) (c ∷ s) (cond b (Ok (Found c 1)) (Err (up q)))
@@ -76,6 +79,9 @@ reads_controls cs {m} l s r h = go s r h
     go s (Ok Open) h = h
     go [] (Err q) h = absurd (both_ways _ h.0.1 l.empty_opens)
     go (c ∷ s) (Err q) h = maybe c s q h.0 h.1 (added cs m c) refl
+
+pub control_answer : (cs : List Bool) {m : Meaning} (l : Laws m) (s : List ℕ) (r t : Answer) → Reads m s r → t ≡ control_read cs m s r → Reads (controls cs m) s t
+control_answer cs l s r t h e = rw e (reads_controls cs l s r h)
 
 -- under another form of bytes, from what is read below of the first four
 module _ (r : Recoding) (m : Meaning) (a : Agrees r) (l : Laws m) where

@@ -1,9 +1,7 @@
 pub mod LayerReads
 pub mod Wording
-pub mod Scanning
 pub mod RecodedReads
 pub mod RecodedWrites
-pub mod ControlReads
 pub mod MoreWording
 pub mod Listed
 pub mod Risen
@@ -11,4 +9,3 @@ pub mod Required
 mod Faults
 mod Firsts
 mod Once
-pub mod SubReads

@@ -1,12 +1,12 @@
 -- The subrepertoire and the controls in plain words. Assumes nothing.
-use Rattle.std.proofs.Common.{◌≡◌, ℕ, Bool, true, false, ◌&&◌, ltb, ◌⊎◌, List, [], ◌∷◌, get_or, Ok, Err, refl, inl, inr}
+use Rattle.std.proofs.Common.{◌≡◌, ℕ, Bool, true, false, ◌&&◌, ltb, ◌⊎◌, List, [], ◌∷◌, get_or, is_err, is_none, Ok, Err, refl, inl, inr}
 use Rattle.std.proofs.lemmas.Bool.{and_parts, both_ways, lt-ltb}
 use Rattle.charset.specs.declared.Reading.TheVariants.{Found, Open}
 use Rattle.charset.specs.Meaning.{Meaning, Unreadable, Laws}
 use Rattle.charset.specs.Answers.{Answer, Reads, reading}
 use Rattle.charset.proofs.FrontLemmas.{reading_is, reading_bad, reading_reads}
 use Rattle.layers.specs.CharacterList.{on_list}
-use Rattle.layers.specs.Layers.{is_refused, is_none, added, sub}
+use Rattle.layers.specs.Layers.{added, sub}
 use Rattle.layers.specs.Words.{SubMeaning, Added, ControlsMeaning}
 use Rattle.layers.specs.LayersKeep.{kept_parts, control_parts, added_parts, from_below, new}
 
@@ -32,7 +32,7 @@ sub_meaning ds m l = record {
 pub added_words : (chosen : List Bool) (m : Meaning) → Laws m → (c : ℕ) → added chosen m c ≡ true → Added chosen m c
 added_words chosen m l c e =
     let h = added_parts chosen l c e in
-    let first = (and_parts (ltb c 0x20 && get_or chosen c false) (is_refused (reading m (c ∷ [])) && is_none (m.codings.string c)) e).0 in
+    let first = (and_parts (ltb c 0x20 && get_or chosen c false) (is_err (reading m (c ∷ [])) && is_none (m.codings.string c)) e).0 in
     record { control = h.0; choice = (and_parts (ltb c 0x20) (get_or chosen c false) first).1; unread = h.1; unwritten = h.2 }
 
 pub words_added : (chosen : List Bool) (m : Meaning) → Laws m → (c : ℕ) → Added chosen m c → added chosen m c ≡ true

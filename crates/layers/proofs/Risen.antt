@@ -1,5 +1,5 @@
 -- Numbers that rise. Assumes nothing.
-use Rattle.std.proofs.Common.{◌≡◌, ℕ, zero, suc, ◌-◌, ◌<◌, true, ◌&&◌, ◌||◌, eqb, ltb, leb, List, length, get_or, inl, inr, arith}
+use Rattle.std.proofs.Common.{◌≡◌, ℕ, zero, suc, ◌-◌, ◌<◌, ◌≤◌, true, ◌&&◌, ◌||◌, eqb, ltb, leb, List, length, get_or, inl, inr, arith}
 use Rattle.std.proofs.lemmas.Bool.{cases_eq, cases_lt}
 use Rattle.std.proofs.lemmas.Bool.Decides.{nat_tests}
 use Rattle.layers.specs.CharacterList.{rises_at, Rising}
@@ -30,4 +30,11 @@ earlier xs up j k h g less = elim (cases_lt j k) [
     | inl e ↦ absurd (let same : get_or xs j 0 ≡ get_or xs k 0 = cc in omega arith)
     | inr n ↦ absurd (omega (arith, farther xs up k j (omega arith) h))
   ]
+]
+
+-- nowhere does a number come after a larger one
+pub never_falls : (xs : List ℕ) → Rising xs → (i j : ℕ) → i ≤ j → j < length xs → get_or xs i 0 ≤ get_or xs j 0
+never_falls xs up i j h g = elim (cases_lt i j) [
+  | inl less ↦ omega (arith, farther xs up i j less g)
+  | inr more ↦ let same : i ≡ j = omega arith in rw same (omega arith)
 ]

@@ -9,16 +9,16 @@ use Rattle.std.specs.List.{AllByRecursion}
 use Rattle.charset.specs.declared.Reading.TheVariants.{Open}
 use Rattle.charset.specs.Meaning.{Meaning, Codes, Opens, Unreadable, Laws}
 use Rattle.layers.specs.declared.recoding.moves.Move.{Move}
-use Rattle.layers.specs.declared.recoding.moves.Move.TheVariants.{Emit, Hold, Wrong}
+use Rattle.layers.specs.declared.recoding.moves.Move.TheVariants.{Emit, Hold}
 use Rattle.layers.specs.declared.recoding.moves.Form.{Form}
-use Rattle.layers.specs.declared.recoding.moves.Form.TheVariants.{One, Two, Never}
+use Rattle.layers.specs.declared.recoding.moves.Form.TheVariants.{One, Two}
 use Rattle.layers.specs.Depth.{own, up}
 use Rattle.layers.specs.Recoding.{End, clean, pending, broken, Recoding, put, stop, below, ends, before, shifted, is_broken, recoded}
 use Rattle.layers.specs.Layers.{parity_form, parity_bytes, parity, shift_form, shift_step, shift_bytes, shift}
 use Rattle.layers.specs.Words.{in_parity, InParity, Shifts, BeginsShifted, CannotFollow, ParityMeaning, ShiftMeaning}
-use Rattle.charset.proofs.FrontLemmas.{none_some, reading_is, reading_bad, bad_grows, opening_passed}
+use Rattle.charset.proofs.FrontLemmas.{reading_is, reading_bad, bad_grows, opening_passed}
 use Rattle.layers.specs.Recoding.{Agrees}
-use Rattle.layers.specs.Recode.{codes_parts, codes_from, opens_parts, opens_from, shifted_reads, reads_shifted, no_pb, no_cb, no_pc}
+use Rattle.layers.specs.Recode.{codes_parts, codes_from, opens_parts, opens_from, shifted_reads, reads_shifted}
 use Rattle.layers.specs.LayersKeep.{parity_agrees, shift_agrees, parity_laws, shift_laws}
 use Rattle.layers.proofs.Faults.{first_fault}
 
@@ -26,7 +26,7 @@ use Rattle.layers.proofs.Faults.{first_fault}
 parity_shifted : (t s : List ℕ) → InParity t s → shifted parity_bytes t ≡ Some s
 parity_shifted [] s h = ap Some (sym h.1)
 parity_shifted (b ∷ t) s h =
-    let f : parity_form b ≡ One (in_parity b) = (let small = h.0.0 in grind (arith, nat_tests)) in
+    let f : parity_form b ≡ Some (One (in_parity b)) = (let small = h.0.0 in grind (arith, nat_tests)) in
     rw (f, parity_shifted t (map in_parity t) (h.0.1, refl)) (ap Some (sym h.1))
 
 shifted_parity : (t s : List ℕ) → shifted parity_bytes t ≡ Some s → InParity t s
@@ -34,22 +34,22 @@ shifted_parity [] s e = (tt, cc)
 shifted_parity (b ∷ t) s e = go (cases_lt b 0x80) (shifted parity_bytes t) (shifted_parity t) e
   where
     go : (b < 0x80) ⊎ (0x80 ≤ b) → (o : Option (List ℕ)) → ((u : List ℕ) → o ≡ Some u → InParity t u) → before (parity_form b) o ≡ Some s → InParity (b ∷ t) s
-    go d None f e = absurd (none_some e)
+    go d None f e = cc
     go (inl h) (Some u) f e =
-        let k : parity_form b ≡ One (in_parity b) = grind (arith, nat_tests) in
+        let k : parity_form b ≡ Some (One (in_parity b)) = grind (arith, nat_tests) in
         let e' : Some (in_parity b ∷ u) ≡ Some s = rw k at e in
         let s_is : in_parity b ∷ u ≡ s = cc in
         ((h, (f u refl).0), sym s_is ∙ ap {B = List ℕ} (λ z. in_parity b ∷ z) (f u refl).1)
     go (inr h) (Some u) f e =
-        let k : parity_form b ≡ Never = grind (arith, nat_tests) in
+        let k : parity_form b ≡ None = grind (arith, nat_tests) in
         let e' : None ≡ Some s = rw k at e in
-        absurd (none_some e')
+        cc
 
 -- Shift
-plain_form : (b : ℕ) → b < 0x80 → (b ≡ 0x19 → ⊥) → shift_form b ≡ One b
+plain_form : (b : ℕ) → b < 0x80 → (b ≡ 0x19 → ⊥) → shift_form b ≡ Some (One b)
 plain_form b h k = grind (arith, nat_tests)
 
-upper_form : (b : ℕ) → 0xa0 ≤ b → b < 0x100 → shift_form b ≡ Two 0x19 (b - 0x80)
+upper_form : (b : ℕ) → 0xa0 ≤ b → b < 0x100 → shift_form b ≡ Some (Two 0x19 (b - 0x80))
 upper_form b h k = grind (arith, nat_tests)
 
 shifts_shifted : (t s : List ℕ) → Shifts t s → shifted shift_bytes t ≡ Some s
@@ -64,17 +64,17 @@ shifted_shifts : (t s : List ℕ) → shifted shift_bytes t ≡ Some s → Shift
 shifted_shifts [] s e = cc
 shifted_shifts (b ∷ t) s e = go (shift_form b) refl (shifted shift_bytes t) (shifted_shifts t) e
   where
-    go : (f : Form) → shift_form b ≡ f → (o : Option (List ℕ)) → ((u : List ℕ) → o ≡ Some u → Shifts t u) → before f o ≡ Some s → Shifts (b ∷ t) s
-    go f h None g e = absurd (none_some e)
-    go (One x) h (Some u) g e =
+    go : (f : Option Form) → shift_form b ≡ f → (o : Option (List ℕ)) → ((u : List ℕ) → o ≡ Some u → Shifts t u) → before f o ≡ Some s → Shifts (b ∷ t) s
+    go f h None g e = cc
+    go (Some (One x)) h (Some u) g e =
         let k : (b < 0x80) × (b ≡ 0x19 → ⊥) × (b ≡ x) = (grind (arith, nat_tests), (λ z. grind (arith, nat_tests)), grind (arith, nat_tests)) in
         let s_is : x ∷ u ≡ s = cc in
         (u, g u refl, inl (k.0, k.1, rw k.2 (sym s_is)))
-    go (Two x y) h (Some u) g e =
+    go (Some (Two x y)) h (Some u) g e =
         let k : (0xa0 ≤ b) × (b < 0x100) × (0x19 ≡ x) × (b - 0x80 ≡ y) = (grind (arith, nat_tests), grind (arith, nat_tests), grind (arith, nat_tests), grind (arith, nat_tests)) in
         let s_is : x ∷ y ∷ u ≡ s = cc in
         (u, g u refl, inr (k.0, k.1, rw (k.2, k.3) (sym s_is)))
-    go Never h (Some u) g e = absurd (none_some e)
+    go None h (Some u) g e = cc
 
 -- a form's codings and openings, by the strings that it shifts
 module _ {r : Recoding} (a : Agrees r) (m : Meaning) where
@@ -86,48 +86,48 @@ module _ {r : Recoding} (a : Agrees r) (m : Meaning) where
 
   -- a pending string is a clean one and a byte that is held
   abbrev Split : List ℕ → List ℕ → Type 0
-  Split s t = (p : List ℕ) × (h : ℕ) × (s ≡ p ++ h ∷ []) × (r.step false h ≡ Hold) × (shifted r t ≡ Some p)
+  Split s t = (p : List ℕ) × (h : ℕ) × (s ≡ p ++ h ∷ []) × (r.step false h ≡ Some Hold) × (shifted r t ≡ Some p)
 
   pending_split : (s : List ℕ) → ends r false s ≡ pending → Split s (below r false s)
-  pending_split [] e = absurd (no_pc (sym e))
+  pending_split [] e = cc
   pending_split (x ∷ []) e = go (r.step false x) refl e
     where
-      go : (v : Move) → r.step false x ≡ v → stop v (λ q. ends r q []) ≡ pending → Split (x ∷ []) (put v (λ q. below r q []))
-      go (Emit b) k e = absurd (no_pc (sym e))
-      go Hold k e = ([], x, refl, k, refl)
-      go Wrong k e = absurd (no_pb (sym e))
+      go : (v : Option Move) → r.step false x ≡ v → stop v (λ q. ends r q []) ≡ pending → Split (x ∷ []) (put v (λ q. below r q []))
+      go (Some (Emit b)) k e = cc
+      go (Some Hold) k e = ([], x, refl, k, refl)
+      go None k e = cc
   pending_split (x ∷ y ∷ s) e = go (r.step false x) refl (pending_split (y ∷ s)) (pending_split s) e
     where
-      snd : (v : Move) → r.step true y ≡ v → r.step false x ≡ Hold → (ends r false s ≡ pending → Split s (below r false s)) → stop v (λ q. ends r q s) ≡ pending
+      snd : (v : Option Move) → r.step true y ≡ v → r.step false x ≡ Some Hold → (ends r false s ≡ pending → Split s (below r false s)) → stop v (λ q. ends r q s) ≡ pending
           → Split (x ∷ y ∷ s) (put v (λ q. below r q s))
-      snd (Emit b) k f g e = let i = g e in (x ∷ y ∷ i.0, i.1, ap {B = List ℕ} (λ z. x ∷ y ∷ z) i.2, i.3, rw (a.step_two b x y f k, i.4))
-      snd Hold k f g e = absurd (a.no_third y k)
-      snd Wrong k f g e = absurd (no_pb (sym e))
+      snd (Some (Emit b)) k f g e = let i = g e in (x ∷ y ∷ i.0, i.1, ap {B = List ℕ} (λ z. x ∷ y ∷ z) i.2, i.3, rw (a.step_two b x y f k, i.4))
+      snd (Some Hold) k f g e = absurd (a.no_third y k)
+      snd None k f g e = cc
 
-      go : (v : Move) → r.step false x ≡ v → (ends r false (y ∷ s) ≡ pending → Split (y ∷ s) (below r false (y ∷ s))) → (ends r false s ≡ pending → Split s (below r false s))
+      go : (v : Option Move) → r.step false x ≡ v → (ends r false (y ∷ s) ≡ pending → Split (y ∷ s) (below r false (y ∷ s))) → (ends r false s ≡ pending → Split s (below r false s))
           → stop v (λ q. ends r q (y ∷ s)) ≡ pending → Split (x ∷ y ∷ s) (put v (λ q. below r q (y ∷ s)))
-      go (Emit b) k f g e = let i = f e in (x ∷ i.0, i.1, ap {B = List ℕ} (λ z. x ∷ z) i.2, i.3, rw (a.step_one b x k, i.4))
-      go Hold k f g e = snd (r.step true y) refl k g e
-      go Wrong k f g e = absurd (no_pb (sym e))
+      go (Some (Emit b)) k f g e = let i = f e in (x ∷ i.0, i.1, ap {B = List ℕ} (λ z. x ∷ z) i.2, i.3, rw (a.step_one b x k, i.4))
+      go (Some Hold) k f g e = snd (r.step true y) refl k g e
+      go None k f g e = cc
 
   -- what follows a string that is clean, or that holds a byte
   join : (h : Bool) (p : List ℕ) (q : Bool) (s : List ℕ) → ends r q p ≡ cond h pending clean → (ends r q (p ++ s) ≡ ends r h s) × (below r q (p ++ s) ≡ below r q p ++ below r h s)
   join false [] false s e = (refl, refl)
   join true [] true s e = (refl, refl)
-  join false [] true s e = absurd (no_pc e)
-  join true [] false s e = absurd (no_pc (sym e))
+  join false [] true s e = cc
+  join true [] false s e = cc
   join h (x ∷ p) q s e = go (r.step q x) (λ z. join h p z s) e
     where
       unbroken : (h : Bool) → cond h pending clean ≡ broken → ⊥
-      unbroken true e = no_pb e
-      unbroken false e = no_cb e
+      unbroken true e = cc
+      unbroken false e = cc
 
-      go : (v : Move) → ((z : Bool) → ends r z p ≡ cond h pending clean → (ends r z (p ++ s) ≡ ends r h s) × (below r z (p ++ s) ≡ below r z p ++ below r h s))
+      go : (v : Option Move) → ((z : Bool) → ends r z p ≡ cond h pending clean → (ends r z (p ++ s) ≡ ends r h s) × (below r z (p ++ s) ≡ below r z p ++ below r h s))
           → stop v (λ z. ends r z p) ≡ cond h pending clean
           → (stop v (λ z. ends r z (p ++ s)) ≡ ends r h s) × (put v (λ z. below r z (p ++ s)) ≡ put v (λ z. below r z p) ++ below r h s)
-      go (Emit b) f e = ((f false e).0, ap {B = List ℕ} (λ z. b ∷ z) (f false e).1)
-      go Hold f e = f true e
-      go Wrong f e = absurd (unbroken h (sym e))
+      go (Some (Emit b)) f e = ((f false e).0, ap {B = List ℕ} (λ z. b ∷ z) (f false e).1)
+      go (Some Hold) f e = f true e
+      go None f e = absurd (unbroken h (sym e))
 
   clean_join : (p : List ℕ) (q : Bool) (s : List ℕ) → ends r q p ≡ clean → (ends r q (p ++ s) ≡ ends r false s) × (below r q (p ++ s) ≡ below r q p ++ below r false s)
   clean_join = join false
@@ -153,25 +153,25 @@ module _ {r : Recoding} (a : Agrees r) (m : Meaning) where
   form_opened s t h o d = let g = form_ends s t d in opens_from r m s h g.0 (rw g.1 o)
 
   -- what a wrong byte does
-  wrong_join : (p : List ℕ) (q : Bool) (x : ℕ) (s : List ℕ) → (ends r q p ≡ clean → r.step false x ≡ Wrong) → (ends r q p ≡ pending → r.step true x ≡ Wrong)
+  wrong_join : (p : List ℕ) (q : Bool) (x : ℕ) (s : List ℕ) → (ends r q p ≡ clean → r.step false x ≡ None) → (ends r q p ≡ pending → r.step true x ≡ None)
       → (ends r q (p ++ x ∷ s) ≡ broken) × (below r q (p ++ x ∷ s) ≡ below r q p)
   wrong_join [] false x s f g = rw (f refl) (refl, refl)
   wrong_join [] true x s f g = rw (g refl) (refl, refl)
   wrong_join (y ∷ p) q x s f g = go (r.step q y) (λ z. wrong_join p z x s) f g
     where
-      go : (v : Move) → ((z : Bool) → (ends r z p ≡ clean → r.step false x ≡ Wrong) → (ends r z p ≡ pending → r.step true x ≡ Wrong) → (ends r z (p ++ x ∷ s) ≡ broken) × (below r z (p ++ x ∷ s) ≡ below r z p))
-          → (stop v (λ z. ends r z p) ≡ clean → r.step false x ≡ Wrong) → (stop v (λ z. ends r z p) ≡ pending → r.step true x ≡ Wrong)
+      go : (v : Option Move) → ((z : Bool) → (ends r z p ≡ clean → r.step false x ≡ None) → (ends r z p ≡ pending → r.step true x ≡ None) → (ends r z (p ++ x ∷ s) ≡ broken) × (below r z (p ++ x ∷ s) ≡ below r z p))
+          → (stop v (λ z. ends r z p) ≡ clean → r.step false x ≡ None) → (stop v (λ z. ends r z p) ≡ pending → r.step true x ≡ None)
           → (stop v (λ z. ends r z (p ++ x ∷ s)) ≡ broken) × (put v (λ z. below r z (p ++ x ∷ s)) ≡ put v (λ z. below r z p))
-      go (Emit b) i f g = ((i false f g).0, ap {B = List ℕ} (λ z. b ∷ z) (i false f g).1)
-      go Hold i f g = i true f g
-      go Wrong i f g = (refl, refl)
+      go (Some (Emit b)) i f g = ((i false f g).0, ap {B = List ℕ} (λ z. b ∷ z) (i false f g).1)
+      go (Some Hold) i f g = i true f g
+      go None i f g = (refl, refl)
 
   -- four bytes of a string and more
   four : (s rest : List ℕ) → length s ≤ 4 → take 4 (s ++ rest) ≡ s ++ take (4 - length s) rest
   four s rest h = let e : length s + (4 - length s) ≡ 4 = omega arith in ap (λ n. take n (s ++ rest)) (sym e) ∙ take-append-add s rest (4 - length s)
 
   module _ (l : Laws m) where
-    own_cause : (p rest : List ℕ) (x : ℕ) → Opens (recoded r m) p → (ends r false p ≡ clean → r.step false x ≡ Wrong) → (ends r false p ≡ pending → r.step true x ≡ Wrong)
+    own_cause : (p rest : List ℕ) (x : ℕ) → Opens (recoded r m) p → (ends r false p ≡ clean → r.step false x ≡ None) → (ends r false p ≡ pending → r.step true x ≡ None)
         → (recoded r m).causes (p ++ x ∷ rest) ≡ own r.fault
     own_cause p rest x o f g =
         let h = opens_parts r m p o in
@@ -196,7 +196,7 @@ module _ {r : Recoding} (a : Agrees r) (m : Meaning) where
 
     -- what is wrong with a byte after an opening
     abbrev Fault : List ℕ → ℕ → Type 0
-    Fault p x = ((h : Bool) × (ends r false p ≡ cond h pending clean) × (r.step h x ≡ Wrong)) ⊎ (((length p ≡ 3) × (t : List ℕ) × Opens m t × ((shifted r t ≡ Some (p ++ x ∷ [])) ⊎ Split (p ++ x ∷ []) t)) ⊎ ((t : List ℕ) × (shifted r t ≡ Some (p ++ x ∷ [])) × Unreadable m t))
+    Fault p x = ((h : Bool) × (ends r false p ≡ cond h pending clean) × (r.step h x ≡ None)) ⊎ (((length p ≡ 3) × (t : List ℕ) × Opens m t × ((shifted r t ≡ Some (p ++ x ∷ [])) ⊎ Split (p ++ x ∷ []) t)) ⊎ ((t : List ℕ) × (shifted r t ≡ Some (p ++ x ∷ [])) × Unreadable m t))
 
     fault : (p : List ℕ) (x : ℕ) → Opens (recoded r m) p → Unreadable (recoded r m) (p ++ x ∷ []) → Fault p x
     fault p x o u = go (ends r false p) refl
@@ -216,7 +216,7 @@ module _ {r : Recoding} (a : Agrees r) (m : Meaning) where
           | inr h ↦ omega (arith, known.0)
         ]
 
-        emitted : (h : Bool) (b : ℕ) → ends r false p ≡ cond h pending clean → r.step h x ≡ Emit b → Fault p x
+        emitted : (h : Bool) (b : ℕ) → ends r false p ≡ cond h pending clean → r.step h x ≡ Some (Emit b) → Fault p x
         emitted h b e k = decide (m.openings (below r false s)) refl
           where
             j : (ends r false s ≡ ends r h (x ∷ [])) × (below r false s ≡ below r false p ++ below r h (x ∷ []))
@@ -239,7 +239,7 @@ module _ {r : Recoding} (a : Agrees r) (m : Meaning) where
             decide true z = inr (inl (waits (rw ended refl) z, below r false s, z, inl (reads_shifted a s ended)))
             decide false z = inr (inr (below r false s, reads_shifted a s ended, (bare, z)))
 
-        held : ends r false p ≡ clean → r.step false x ≡ Hold → Fault p x
+        held : ends r false p ≡ clean → r.step false x ≡ Some Hold → Fault p x
         held e k =
             let j = join false p false (x ∷ []) e in
             let ended : ends r false s ≡ pending = j.0 ∙ (rw k refl) in
@@ -250,16 +250,16 @@ module _ {r : Recoding} (a : Agrees r) (m : Meaning) where
         go : (e : End) → ends r false p ≡ e → Fault p x
         go clean e = step (r.step false x) refl
           where
-            step : (v : Move) → r.step false x ≡ v → Fault p x
-            step (Emit b) k = emitted false b e k
-            step Hold k = held e k
-            step Wrong k = inl (false, e, k)
+            step : (v : Option Move) → r.step false x ≡ v → Fault p x
+            step (Some (Emit b)) k = emitted false b e k
+            step (Some Hold) k = held e k
+            step None k = inl (false, e, k)
         go pending e = step (r.step true x) refl
           where
-            step : (v : Move) → r.step true x ≡ v → Fault p x
-            step (Emit b) k = emitted true b e k
-            step Hold k = absurd (a.no_third x k)
-            step Wrong k = inl (true, e, k)
+            step : (v : Option Move) → r.step true x ≡ v → Fault p x
+            step (Some (Emit b)) k = emitted true b e k
+            step (Some Hold) k = absurd (a.no_third x k)
+            step None k = inl (true, e, k)
         go broken e = absurd (both_ways true (rw e at known.1) refl)
 
 pub parity_meaning : (m : Meaning) → Laws m → ParityMeaning m
@@ -275,17 +275,17 @@ parity_meaning m l = record {
       (f.0, f.1, f.2, f.3, f.4, kind f.0 f.2 (byte_at f.0 f.1 f.2 (rw f.3 at b)) (fault parity_agrees m l f.0 f.2 f.4 f.5));
 }
   where
-    odd : (x : ℕ) → ones x % 2 ≡ 1 → parity_bytes.step false x ≡ Wrong
+    odd : (x : ℕ) → ones x % 2 ≡ 1 → parity_bytes.step false x ≡ None
     odd x e = grind (arith, nat_tests)
 
-    never_held : (x : ℕ) → parity_bytes.step false x ≡ Hold → ⊥
+    never_held : (x : ℕ) → parity_bytes.step false x ≡ Some Hold → ⊥
     never_held x e = grind (arith, nat_tests)
 
     byte_at : (p rest : List ℕ) (x : ℕ) → AllByRecursion (λ b. b < 0x100) (p ++ x ∷ rest) → x < 0x100
     byte_at [] rest x h = h.0
     byte_at (y ∷ p) rest x h = byte_at p rest x h.1
 
-    wrong_odd : (x : ℕ) → x < 0x100 → parity_bytes.step false x ≡ Wrong → ones x % 2 ≡ 1
+    wrong_odd : (x : ℕ) → x < 0x100 → parity_bytes.step false x ≡ None → ones x % 2 ≡ 1
     wrong_odd x h e = grind (arith, nat_tests)
 
     kind : (p : List ℕ) (x : ℕ) → x < 0x100 → Fault parity_agrees m l p x → (ones x % 2 ≡ 1) ⊎ ((t : List ℕ) × InParity t (p ++ x ∷ []) × Unreadable m t)
@@ -297,14 +297,14 @@ parity_meaning m l = record {
     kind p x h (inr (inl (three, t, o, inr i))) = absurd (never_held i.1 i.3)
     kind p x h (inr (inr (t, e, u))) = inr (t, shifted_parity t (p ++ x ∷ []) e, u)
 
-held_is : (x : ℕ) → shift_step false x ≡ Hold → x ≡ 0x19
+held_is : (x : ℕ) → shift_step false x ≡ Some Hold → x ≡ 0x19
 held_is x e = grind (arith, nat_tests)
 
-no_high : (q : Bool) (x : ℕ) → 0x80 ≤ x → shift_step q x ≡ Wrong
+no_high : (q : Bool) (x : ℕ) → 0x80 ≤ x → shift_step q x ≡ None
 no_high false x h = grind (arith, nat_tests)
 no_high true x h = grind (arith, nat_tests)
 
-no_low : (x : ℕ) → x < 0x20 → shift_step true x ≡ Wrong
+no_low : (x : ℕ) → x < 0x20 → shift_step true x ≡ None
 no_low x h = grind (arith, nat_tests)
 
 pub shift_meaning : (m : Meaning) → Laws m → ShiftMeaning m
@@ -323,10 +323,10 @@ shift_meaning m l = record {
     as_words s t (inl e) = inl (shifted_shifts t s e)
     as_words s t (inr i) = inr (i.0, i.2 ∙ ap (λ x. i.0 ++ x ∷ []) (held_is i.1 i.3), shifted_shifts t i.0 i.4)
 
-    wrong_high : (x : ℕ) → shift_step false x ≡ Wrong → 0x80 ≤ x
+    wrong_high : (x : ℕ) → shift_step false x ≡ None → 0x80 ≤ x
     wrong_high x e = grind (arith, nat_tests)
 
-    wrong_second : (x : ℕ) → shift_step true x ≡ Wrong → (x < 0x20) ⊎ (0x80 ≤ x)
+    wrong_second : (x : ℕ) → shift_step true x ≡ None → (x < 0x20) ⊎ (0x80 ≤ x)
     wrong_second x e = elim (cases_lt x 0x20) [ inl h ↦ inl h | inr h ↦ inr (grind (arith, nat_tests)) ]
 
     kind : (p : List ℕ) (x : ℕ) → Fault shift_agrees m l p x → CannotFollow p x ⊎ (((length p ≡ 3) × (t : List ℕ) × Opens m t × BeginsShifted t (p ++ x ∷ [])) ⊎ ((t : List ℕ) × Shifts t (p ++ x ∷ []) × Unreadable m t))
@@ -342,12 +342,13 @@ shift_meaning m l = record {
     as_form s t (inl h) = inl (shifts_shifted t s h)
     as_form s t (inr h) = inr (h.0, 0x19, h.1, refl, shifts_shifted t h.0 h.2)
 
-    cannot : (b : Bool) (p : List ℕ) (x : ℕ) → CannotFollow p x → ends shift_bytes false p ≡ clean → shift_step false x ≡ Wrong
+    cannot : (b : Bool) (p : List ℕ) (x : ℕ) → CannotFollow p x → ends shift_bytes false p ≡ clean → shift_step false x ≡ None
     cannot b p x (inl h) e = no_high false x h
     cannot b p x (inr h) e =
         let g = shifted_reads shift_agrees h.1 h.0 (shifts_shifted h.1 h.0 h.3) in
-        absurd (no_pc (sym (clean_join shift_agrees m h.0 false (0x19 ∷ []) g.0).0 ∙ ap (ends shift_bytes false) (sym h.2) ∙ e))
+        let k : pending ≡ clean = sym (clean_join shift_agrees m h.0 false (0x19 ∷ []) g.0).0 ∙ ap (ends shift_bytes false) (sym h.2) ∙ e in
+        cc
 
-    cannot' : (p : List ℕ) (x : ℕ) → CannotFollow p x → ends shift_bytes false p ≡ pending → shift_step true x ≡ Wrong
+    cannot' : (p : List ℕ) (x : ℕ) → CannotFollow p x → ends shift_bytes false p ≡ pending → shift_step true x ≡ None
     cannot' p x (inl h) e = no_high true x h
     cannot' p x (inr h) e = no_low x h.4

@@ -1,7 +1,8 @@
 -- Each layer over a lawful set is a lawful set. Assumes nothing.
-use Rattle.std.specs.Prelude.{◌≡◌, ℕ, ◌+◌, ◌*◌, ◌%◌, ◌^◌, ◌<◌, ◌≤◌, min, Bool, true, false, cond, ◌⊎◌, List, [], ◌∷◌, length, take, Some, None, Ok, Err, Option, refl}
-use Rattle.std.proofs.Common.{sym, ap, ◌∙◌, inl, inr, arith, length-take, take-take, lit<, lit≤}
+use Rattle.std.specs.Prelude.{◌≡◌, ℕ, ◌+◌, ◌*◌, ◌%◌, ◌^◌, ◌<◌, ◌≤◌, min, Bool, true, false, cond, ◌⊎◌, List, [], ◌∷◌, length, take, Some, None, Ok, Err, Option, is_none, is_err, refl}
+use Rattle.std.proofs.Common.{ap, ◌∙◌, inl, inr, arith, length-take, take-take, lit<, lit≤}
 use Rattle.std.specs.Int.Count.{ones}
+use Rattle.std.specs.Option.{option_or}
 use Rattle.std.proofs.lemmas.Nat.{ones_cat}
 use Rattle.std.proofs.lemmas.Bool.{cases_lt, both_ways, and_parts, ltb-true}
 use Rattle.std.proofs.lemmas.Bool.Decides.{nat_tests}
@@ -12,8 +13,8 @@ use Rattle.layers.specs.declared.recoding.moves.Move.TheVariants.{Emit}
 use Rattle.layers.specs.declared.recoding.moves.Form.TheVariants.{One}
 use Rattle.layers.specs.Depth.{own, up, over}
 use Rattle.layers.specs.CharacterList.{on_list}
-use Rattle.layers.specs.Layers.{parity_step, parity_form, parity_bytes, parity, shift_bytes, shift, kept, sub, is_refused, is_none, added, control, else_char, controls}
-use Rattle.charset.proofs.FrontLemmas.{none_some, reading_reads, reading_is, reading_bad, bad_grows, alone}
+use Rattle.layers.specs.Layers.{parity_step, parity_form, parity_bytes, parity, shift_bytes, shift, kept, sub, added, control, controls}
+use Rattle.charset.proofs.FrontLemmas.{reading_reads, reading_is, reading_bad, bad_grows, alone}
 use Rattle.layers.specs.Recoding.{Agrees}
 use Rattle.layers.specs.Recode.{recoded_laws, over_small}
 
@@ -40,10 +41,10 @@ seal b h = ap ones (let e : b + 128 ≡ 1 * 2 ^ 7 + b = omega arith in e) ∙ on
 top_bit : (x : ℕ) → x < 256 → (x ≡ x % 128) ⊎ (x ≡ x % 128 + 128)
 top_bit x h = elim (cases_lt x 128) [ inl g ↦ inl (omega arith) | inr g ↦ inr (omega arith) ]
 
-parity_one : (b x : ℕ) → parity_form b ≡ One x → parity_step false x ≡ Emit b
+parity_one : (b x : ℕ) → parity_form b ≡ Some (One x) → parity_step false x ≡ Some (Emit b)
 parity_one b x e = elim (cases_lt b 128) [ inl g ↦ let k = seal b g in grind (arith, nat_tests) | inr g ↦ grind (arith, nat_tests) ]
 
-parity_back : (b x : ℕ) → parity_step false x ≡ Emit b → parity_form b ≡ One x
+parity_back : (b x : ℕ) → parity_step false x ≡ Some (Emit b) → parity_form b ≡ Some (One x)
 parity_back b x e =
     let h : x < 256 = grind (arith, nat_tests) in
     let k : x % 128 ≡ b = grind (arith, nat_tests) in
@@ -54,10 +55,10 @@ parity_back b x e =
       | inr g ↦ let y : x ≡ b + 128 = omega arith in high b x small y (rw y at even)
     ]
   where
-    low : (b x : ℕ) → b < 128 → x ≡ b → ones b % 2 ≡ 0 → parity_form b ≡ One x
+    low : (b x : ℕ) → b < 128 → x ≡ b → ones b % 2 ≡ 0 → parity_form b ≡ Some (One x)
     low b x h e k = grind (arith, nat_tests)
 
-    high : (b x : ℕ) → b < 128 → x ≡ b + 128 → ones (b + 128) % 2 ≡ 0 → parity_form b ≡ One x
+    high : (b x : ℕ) → b < 128 → x ≡ b + 128 → ones (b + 128) % 2 ≡ 0 → parity_form b ≡ Some (One x)
     high b x h e k = let s = seal b h in let odd : ones b % 2 ≡ 1 = omega arith in grind (arith, nat_tests)
 
 pub parity_agrees : Agrees parity_bytes
@@ -86,12 +87,12 @@ module _ (ds : List ℕ) {m : Meaning} (l : Laws m) where
   kept_parts s c p = go (m.codings.character s) refl p
     where
       go : (o : Option ℕ) → m.codings.character s ≡ o → kept ds o ≡ Some c → (on_list ds c ≡ true) × Codes m s c
-      go None e p = absurd (none_some p)
+      go None e p = cc
       go (Some d) e p = last (on_list ds d) refl p
         where
           last : (b : Bool) → on_list ds d ≡ b → cond b (Some d) None ≡ Some c → (on_list ds c ≡ true) × Codes m s c
           last true f p = let same : d ≡ c = cc in rw (← same) (f, e)
-          last false f p = absurd (none_some p)
+          last false f p = cc
 
   pub sub_laws : Laws (sub ds m)
   sub_laws = record {
@@ -113,7 +114,7 @@ module _ (ds : List ℕ) {m : Meaning} (l : Laws m) where
     where
       go : (c : ℕ) (s : List ℕ) (b : Bool) → on_list ds c ≡ b → cond b (m.codings.string c) None ≡ Some s → kept ds (m.codings.character s) ≡ Some c
       go c s true e p = rw (l.written c s p, e)
-      go c s false e p = absurd (none_some p)
+      go c s false e p = cc
 
       stays : (s : List ℕ) (n : ℕ) (r : Answer) → Reads m (take n s) r → reading m (take n s) ≡ r → m.openings (take n s) ≡ false
           → over (reading m s) (own 37) ≡ over (reading m (take n s)) (own 37)
@@ -126,15 +127,15 @@ module _ (cs : List Bool) {m : Meaning} (l : Laws m) where
   pub control_parts : (s : List ℕ) (c : ℕ) → Codes (controls cs m) s c → Codes m s c ⊎ ((s ≡ c ∷ []) × (added cs m c ≡ true))
   control_parts s c p = go (m.codings.character s) refl s refl p
     where
-      go : (o : Option ℕ) → m.codings.character s ≡ o → (t : List ℕ) → s ≡ t → else_char o (control cs m t) ≡ Some c → Codes m s c ⊎ ((s ≡ c ∷ []) × (added cs m c ≡ true))
+      go : (o : Option ℕ) → m.codings.character s ≡ o → (t : List ℕ) → s ≡ t → option_or o (control cs m t) ≡ Some c → Codes m s c ⊎ ((s ≡ c ∷ []) × (added cs m c ≡ true))
       go (Some d) e t h p = inl (e ∙ p)
-      go None e [] h p = absurd (none_some p)
+      go None e [] h p = cc
       go None e (x ∷ []) h p = last (added cs m x) refl p
         where
           last : (b : Bool) → added cs m x ≡ b → cond b (Some x) None ≡ Some c → Codes m s c ⊎ ((s ≡ c ∷ []) × (added cs m c ≡ true))
           last true f p = let same : x ≡ c = cc in inr (rw same at h, rw same at f)
-          last false f p = absurd (none_some p)
-      go None e (x ∷ y ∷ t) h p = absurd (none_some p)
+          last false f p = cc
+      go None e (x ∷ y ∷ t) h p = cc
 
   -- what was added is bad below, small, and has no coding below
   pub added_parts : (c : ℕ) → added cs m c ≡ true → (c < 0x20) × Unreadable m (c ∷ []) × (m.codings.string c ≡ None)
@@ -143,7 +144,7 @@ module _ (cs : List Bool) {m : Meaning} (l : Laws m) where
       let g = and_parts _ _ h.1 in
       (ltb-true _ _ (and_parts _ _ h.0).0, refusing (reading m (c ∷ [])) (reading_reads l (c ∷ [])) g.0, nothing (m.codings.string c) refl g.1)
     where
-      refusing : (r : Answer) → Reads m (c ∷ []) r → is_refused r ≡ true → Unreadable m (c ∷ [])
+      refusing : (r : Answer) → Reads m (c ∷ []) r → is_err r ≡ true → Unreadable m (c ∷ [])
       refusing (Ok (Found d n)) h e = absurd (both_ways false refl e)
       refusing (Ok Open) h e = absurd (both_ways false refl e)
       refusing (Err q) h e = h.0
@@ -161,7 +162,7 @@ module _ (cs : List Bool) {m : Meaning} (l : Laws m) where
   pub new : (c : ℕ) → added cs m c ≡ true → Codes (controls cs m) (c ∷ []) c
   new c h = go (m.codings.character (c ∷ [])) refl
     where
-      go : (o : Option ℕ) → m.codings.character (c ∷ []) ≡ o → else_char o (cond (added cs m c) (Some c) None) ≡ Some c
+      go : (o : Option ℕ) → m.codings.character (c ∷ []) ≡ o → option_or o (cond (added cs m c) (Some c) None) ≡ Some c
       go None e = rw h
       go (Some d) e = absurd ((added_parts c h).1.0 1 d e)
 
@@ -200,5 +201,5 @@ module _ (cs : List Bool) {m : Meaning} (l : Laws m) where
       written' c s false e p = from_below s c (l.written c s p)
 
       old : (s : List ℕ) (c : ℕ) → Codes m s c → (b : Bool) → added cs m c ≡ b → cond b (Some (c ∷ [])) (m.codings.string c) ≡ Some s
-      old s c h true e = absurd (none_some (sym (added_parts c e).2 ∙ l.read s c h))
+      old s c h true e = let none = (added_parts c e).2 in let some = l.read s c h in cc
       old s c h false e = l.read s c h

@@ -2,6 +2,7 @@ pub mod CharacterList
 pub mod Refusals
 pub mod Filled
 pub mod Depth
+pub mod Causes
 pub mod Recoding
 pub mod Layers
 pub mod Words

@@ -8,12 +8,12 @@ use Rattle.charset.specs.declared.Reading.TheVariants.{Found, Open}
 use Rattle.charset.specs.Meaning.{Meaning, Codes, Opens, NoFront, Unreadable, Laws}
 use Rattle.charset.specs.Answers.{Answer, Reads, reading}
 use Rattle.layers.specs.declared.recoding.moves.Move.{Move}
-use Rattle.layers.specs.declared.recoding.moves.Move.TheVariants.{Emit, Hold, Wrong}
+use Rattle.layers.specs.declared.recoding.moves.Move.TheVariants.{Emit, Hold}
 use Rattle.layers.specs.declared.recoding.moves.Form.{Form}
-use Rattle.layers.specs.declared.recoding.moves.Form.TheVariants.{One, Two, Never}
+use Rattle.layers.specs.declared.recoding.moves.Form.TheVariants.{One, Two}
 use Rattle.layers.specs.Depth.{up, over}
 use Rattle.layers.specs.Recoding.{End, clean, pending, broken, Recoding, put, stop, below, ends, before, shifted, is_clean, is_broken, at_most_four, shift_of, scan_cause, recoded, Agrees}
-use Rattle.charset.proofs.FrontLemmas.{none_some, reading_reads, reading_bad, bad_grows, alone}
+use Rattle.charset.proofs.FrontLemmas.{reading_reads, reading_bad, bad_grows, alone}
 
 pub over_small : {m : Meaning} → Laws m → (t : List ℕ) (q : SetRefusal) → q.cause < 256 → q.depth < 256
     → ((over (reading m t) q).cause < 256) × ((over (reading m t) q).depth < 256)
@@ -24,15 +24,6 @@ over_small {m} l t q h k = go (reading m t) (reading_reads l t)
     go (Ok Open) e = (h, k)
     go (Err x) e = rw e.1 ((l.cause_sized t e.0).0, omega arith)
 
-pub no_pb : pending ≡ broken → ⊥
-no_pb e = let z : ◌≡◌ {A = ℕ} 0 1 = cc in omega arith
-
-pub no_cb : clean ≡ broken → ⊥
-no_cb e = let z : ◌≡◌ {A = ℕ} 0 1 = cc in omega arith
-
-pub no_pc : pending ≡ clean → ⊥
-no_pc e = let z : ◌≡◌ {A = ℕ} 0 1 = cc in omega arith
-
 module _ (r : Recoding) where
   -- a beginning stands for a beginning
   pub below_take : (s : List ℕ) (p : Bool) (n : ℕ) → below r p (take n s) ≡ take (length (below r p (take n s))) (below r p s)
@@ -40,55 +31,55 @@ module _ (r : Recoding) where
   below_take [] p (suc n) = refl
   below_take (x ∷ s) p (suc n) = go (r.step p x) (λ q. below_take s q n)
     where
-      go : (v : Move) → ((q : Bool) → below r q (take n s) ≡ take (length (below r q (take n s))) (below r q s))
+      go : (v : Option Move) → ((q : Bool) → below r q (take n s) ≡ take (length (below r q (take n s))) (below r q s))
           → put v (λ q. below r q (take n s)) ≡ take (length (put v (λ q. below r q (take n s)))) (put v (λ q. below r q s))
-      go (Emit b) h = ap {B = List ℕ} (λ t. b ∷ t) (h false)
-      go Hold h = h true
-      go Wrong h = refl
+      go (Some (Emit b)) h = ap {B = List ℕ} (λ t. b ∷ t) (h false)
+      go (Some Hold) h = h true
+      go None h = refl
 
   -- what is broken stays broken, and stands for no more
   pub broken_take : (s : List ℕ) (p : Bool) (n : ℕ) → ends r p (take n s) ≡ broken → (below r p (take n s) ≡ below r p s) × (ends r p s ≡ broken)
-  broken_take s true zero e = absurd (no_pb e)
-  broken_take s false zero e = absurd (no_cb e)
+  broken_take s true zero e = cc
+  broken_take s false zero e = cc
   broken_take [] p (suc n) e = (refl, e)
   broken_take (x ∷ s) p (suc n) e = go (r.step p x) (λ q. broken_take s q n) e
     where
-      go : (v : Move) → ((q : Bool) → ends r q (take n s) ≡ broken → (below r q (take n s) ≡ below r q s) × (ends r q s ≡ broken))
+      go : (v : Option Move) → ((q : Bool) → ends r q (take n s) ≡ broken → (below r q (take n s) ≡ below r q s) × (ends r q s ≡ broken))
           → stop v (λ q. ends r q (take n s)) ≡ broken → (put v (λ q. below r q (take n s)) ≡ put v (λ q. below r q s)) × (stop v (λ q. ends r q s) ≡ broken)
-      go (Emit b) h k = (ap {B = List ℕ} (λ t. b ∷ t) (h false k).0, (h false k).1)
-      go Hold h k = h true k
-      go Wrong h k = (refl, refl)
+      go (Some (Emit b)) h k = (ap {B = List ℕ} (λ t. b ∷ t) (h false k).0, (h false k).1)
+      go (Some Hold) h k = h true k
+      go None h k = (refl, refl)
 
   -- a clean string with bytes to come stands for more
   clean_more : (s : List ℕ) → ends r true s ≡ clean → 0 < length (below r true s)
-  clean_more [] e = absurd (no_pc e)
+  clean_more [] e = cc
   clean_more (x ∷ s) e = go (r.step true x) (clean_more s) e
     where
-      go : (v : Move) → (ends r true s ≡ clean → 0 < length (below r true s)) → stop v (λ q. ends r q s) ≡ clean → 0 < length (put v (λ q. below r q s))
-      go (Emit b) h k = omega arith
-      go Hold h k = h k
-      go Wrong h k = absurd (no_cb (sym k))
+      go : (v : Option Move) → (ends r true s ≡ clean → 0 < length (below r true s)) → stop v (λ q. ends r q s) ≡ clean → 0 < length (put v (λ q. below r q s))
+      go (Some (Emit b)) h k = omega arith
+      go (Some Hold) h k = h k
+      go None h k = cc
 
   clean_some : (s : List ℕ) (p : Bool) → ends r p s ≡ clean → 0 < length s → 0 < length (below r p s)
   clean_some s true e h = clean_more s e
   clean_some [] false e h = h
   clean_some (x ∷ s) false e h = go (r.step false x) e
     where
-      go : (v : Move) → stop v (λ q. ends r q s) ≡ clean → 0 < length (put v (λ q. below r q s))
-      go (Emit b) k = omega arith
-      go Hold k = clean_more s k
-      go Wrong k = absurd (no_cb (sym k))
+      go : (v : Option Move) → stop v (λ q. ends r q s) ≡ clean → 0 < length (put v (λ q. below r q s))
+      go (Some (Emit b)) k = omega arith
+      go (Some Hold) k = clean_more s k
+      go None k = cc
 
   pub below_strict : (s : List ℕ) (p : Bool) (n : ℕ) → ends r p s ≡ clean → n < length s → length (below r p (take n s)) < length (below r p s)
   below_strict s p zero e h = clean_some s p e h
   below_strict [] p (suc n) e h = omega arith
   below_strict (x ∷ s) p (suc n) e h = go (r.step p x) (λ q k. below_strict s q n k (omega arith)) e
     where
-      go : (v : Move) → ((q : Bool) → ends r q s ≡ clean → length (below r q (take n s)) < length (below r q s)) → stop v (λ q. ends r q s) ≡ clean
+      go : (v : Option Move) → ((q : Bool) → ends r q s ≡ clean → length (below r q (take n s)) < length (below r q s)) → stop v (λ q. ends r q s) ≡ clean
           → length (put v (λ q. below r q (take n s))) < length (put v (λ q. below r q s))
-      go (Emit b) f k = omega (arith, f false k)
-      go Hold f k = f true k
-      go Wrong f k = absurd (no_cb (sym k))
+      go (Some (Emit b)) f k = omega (arith, f false k)
+      go (Some Hold) f k = f true k
+      go None f k = cc
 
   -- each beginning below, if not empty, is what a clean beginning stands for
   pub below_front : (s : List ℕ) (p : Bool) (k : ℕ) → k < length (below r p s)
@@ -96,59 +87,59 @@ module _ (r : Recoding) where
   below_front [] p k h = absurd (omega arith)
   below_front (x ∷ s) p k h = let g = go (r.step p x) k (below_front s) h in (suc g.0, omega (arith, g.1), g.2, g.3)
     where
-      go : (v : Move) (k : ℕ) → ((q : Bool) (j : ℕ) → j < length (below r q s) → (n : ℕ) × (n ≤ length s) × (ends r q (take n s) ≡ clean) × (below r q (take n s) ≡ take (suc j) (below r q s)))
+      go : (v : Option Move) (k : ℕ) → ((q : Bool) (j : ℕ) → j < length (below r q s) → (n : ℕ) × (n ≤ length s) × (ends r q (take n s) ≡ clean) × (below r q (take n s) ≡ take (suc j) (below r q s)))
           → k < length (put v (λ q. below r q s))
           → (n : ℕ) × (n ≤ length s) × (stop v (λ q. ends r q (take n s)) ≡ clean) × (put v (λ q. below r q (take n s)) ≡ take (suc k) (put v (λ q. below r q s)))
-      go (Emit b) zero f h = (0, omega arith, refl, refl)
-      go (Emit b) (suc k) f h = let g = f false k (omega arith) in (g.0, g.1, g.2, ap {B = List ℕ} (λ t. b ∷ t) g.3)
-      go Hold k f h = f true k h
-      go Wrong k f h = absurd (omega arith)
+      go (Some (Emit b)) zero f h = (0, omega arith, refl, refl)
+      go (Some (Emit b)) (suc k) f h = let g = f false k (omega arith) in (g.0, g.1, g.2, ap {B = List ℕ} (λ t. b ∷ t) g.3)
+      go (Some Hold) k f h = f true k h
+      go None k f h = absurd (omega arith)
 
 module _ {r : Recoding} (a : Agrees r) where
   pub shifted_reads : (t s : List ℕ) → shifted r t ≡ Some s → (ends r false s ≡ clean) × (below r false s ≡ t)
   shifted_reads [] s e = let e' : [] ≡ s = cc in rw (← e') (refl, refl)
   shifted_reads (b ∷ t) s e = go (r.form b) refl (shifted r t) (shifted_reads t) e
     where
-      go : (f : Form) → r.form b ≡ f → (o : Option (List ℕ)) → ((u : List ℕ) → o ≡ Some u → (ends r false u ≡ clean) × (below r false u ≡ t)) → before f o ≡ Some s
+      go : (f : Option Form) → r.form b ≡ f → (o : Option (List ℕ)) → ((u : List ℕ) → o ≡ Some u → (ends r false u ≡ clean) × (below r false u ≡ t)) → before f o ≡ Some s
           → (ends r false s ≡ clean) × (below r false s ≡ b ∷ t)
-      go f h None g e = absurd (none_some e)
-      go (One x) h (Some u) g e = let e' : x ∷ u ≡ s = cc in let g' = g u refl in rw (← e', a.one_step b x h, g'.0, g'.1) (refl, refl)
-      go (Two x y) h (Some u) g e =
+      go f h None g e = cc
+      go (Some (One x)) h (Some u) g e = let e' : x ∷ u ≡ s = cc in let g' = g u refl in rw (← e', a.one_step b x h, g'.0, g'.1) (refl, refl)
+      go (Some (Two x y)) h (Some u) g e =
           let e' : x ∷ y ∷ u ≡ s = cc in let g' = g u refl in let st = a.two_steps b x y h in rw (← e', st.0, st.1, g'.0, g'.1) (refl, refl)
-      go Never h (Some u) g e = absurd (none_some e)
+      go None h (Some u) g e = cc
 
   pub reads_shifted : (s : List ℕ) → ends r false s ≡ clean → shifted r (below r false s) ≡ Some s
   reads_shifted [] e = refl
   reads_shifted (x ∷ []) e = go (r.step false x) refl e
     where
-      go : (v : Move) → r.step false x ≡ v → stop v (λ q. ends r q []) ≡ clean → shifted r (put v (λ q. below r q [])) ≡ Some (x ∷ [])
-      go (Emit b) h e = rw (a.step_one b x h)
-      go Hold h e = absurd (no_pc e)
-      go Wrong h e = absurd (no_cb (sym e))
+      go : (v : Option Move) → r.step false x ≡ v → stop v (λ q. ends r q []) ≡ clean → shifted r (put v (λ q. below r q [])) ≡ Some (x ∷ [])
+      go (Some (Emit b)) h e = rw (a.step_one b x h)
+      go (Some Hold) h e = cc
+      go None h e = cc
   reads_shifted (x ∷ y ∷ s) e = go (r.step false x) refl (reads_shifted (y ∷ s)) (reads_shifted s) e
     where
-      snd : (v : Move) → r.step true y ≡ v → r.step false x ≡ Hold → (ends r false s ≡ clean → shifted r (below r false s) ≡ Some s) → stop v (λ q. ends r q s) ≡ clean
+      snd : (v : Option Move) → r.step true y ≡ v → r.step false x ≡ Some Hold → (ends r false s ≡ clean → shifted r (below r false s) ≡ Some s) → stop v (λ q. ends r q s) ≡ clean
           → shifted r (put v (λ q. below r q s)) ≡ Some (x ∷ y ∷ s)
-      snd (Emit b) h k f e = rw (a.step_two b x y k h, f e)
-      snd Hold h k f e = absurd (a.no_third y h)
-      snd Wrong h k f e = absurd (no_cb (sym e))
+      snd (Some (Emit b)) h k f e = rw (a.step_two b x y k h, f e)
+      snd (Some Hold) h k f e = absurd (a.no_third y h)
+      snd None h k f e = cc
 
-      go : (v : Move) → r.step false x ≡ v → (ends r false (y ∷ s) ≡ clean → shifted r (below r false (y ∷ s)) ≡ Some (y ∷ s)) → (ends r false s ≡ clean → shifted r (below r false s) ≡ Some s)
+      go : (v : Option Move) → r.step false x ≡ v → (ends r false (y ∷ s) ≡ clean → shifted r (below r false (y ∷ s)) ≡ Some (y ∷ s)) → (ends r false s ≡ clean → shifted r (below r false s) ≡ Some s)
           → stop v (λ q. ends r q (y ∷ s)) ≡ clean → shifted r (put v (λ q. below r q (y ∷ s))) ≡ Some (x ∷ y ∷ s)
-      go (Emit b) h f g e = rw (a.step_one b x h, f e)
-      go Hold h f g e = snd (r.step true y) refl h g e
-      go Wrong h f g e = absurd (no_cb (sym e))
+      go (Some (Emit b)) h f g e = rw (a.step_one b x h, f e)
+      go (Some Hold) h f g e = snd (r.step true y) refl h g e
+      go None h f g e = cc
 
   pub unbroken_bytes : (s : List ℕ) (p : Bool) → is_broken (ends r p s) ≡ false → AllByRecursion (λ b. b < 256) s
   unbroken_bytes [] p e = tt
   unbroken_bytes (x ∷ s) p e = go p (r.step p x) refl (unbroken_bytes s) e
     where
-      go : (p : Bool) (v : Move) → r.step p x ≡ v → ((q : Bool) → is_broken (ends r q s) ≡ false → AllByRecursion (λ b. b < 256) s) → is_broken (stop v (λ q. ends r q s)) ≡ false
+      go : (p : Bool) (v : Option Move) → r.step p x ≡ v → ((q : Bool) → is_broken (ends r q s) ≡ false → AllByRecursion (λ b. b < 256) s) → is_broken (stop v (λ q. ends r q s)) ≡ false
           → (x < 256) × AllByRecursion (λ b. b < 256) s
-      go p (Emit b) h f e = (a.first_byte p x b h, f false e)
-      go false Hold h f e = (a.held_byte x h, f true e)
-      go true Hold h f e = absurd (a.no_third x h)
-      go p Wrong h f e = absurd (both_ways true e refl)
+      go p (Some (Emit b)) h f e = (a.first_byte p x b h, f false e)
+      go false (Some Hold) h f e = (a.held_byte x h, f true e)
+      go true (Some Hold) h f e = absurd (a.no_third x h)
+      go p None h f e = absurd (both_ways true e refl)
 
 module _ (r : Recoding) (m : Meaning) where
   pub codes_parts : (s : List ℕ) (c : ℕ) → Codes (recoded r m) s c → (length s ≤ 4) × (ends r false s ≡ clean) × Codes m (below r false s) c
@@ -156,10 +147,10 @@ module _ (r : Recoding) (m : Meaning) where
     where
       go : (b : Bool) → nat_le (length s) 4 ≡ b → (e : End) → ends r false s ≡ e → cond (b && is_clean e) (m.codings.character (below r false s)) None ≡ Some c
           → (length s ≤ 4) × (ends r false s ≡ clean) × Codes m (below r false s) c
-      go false h e k p = absurd (none_some p)
+      go false h e k p = cc
       go true h clean k p = (leb-true _ _ h, k, p)
-      go true h pending k p = absurd (none_some p)
-      go true h broken k p = absurd (none_some p)
+      go true h pending k p = cc
+      go true h broken k p = cc
 
   pub codes_from : (s : List ℕ) (c : ℕ) → length s ≤ 4 → ends r false s ≡ clean → Codes m (below r false s) c → Codes (recoded r m) s c
   codes_from s c h e p = rw (le-leb (length s) 4 h, e) p
@@ -186,18 +177,18 @@ module _ (r : Recoding) (m : Meaning) where
     written' c s p = go (m.codings.string c) refl p
       where
         gone : (t : List ℕ) → m.codings.string c ≡ Some t → (o : Option (List ℕ)) → shifted r t ≡ o → at_most_four o ≡ Some s → Codes (recoded r m) s c
-        gone t k None h e = absurd (none_some e)
+        gone t k None h e = cc
         gone t k (Some u) h e = last (nat_le (length u) 4) refl e
           where
             last : (b : Bool) → nat_le (length u) 4 ≡ b → cond b (Some u) None ≡ Some s → Codes (recoded r m) s c
-            last false f e = absurd (none_some e)
+            last false f e = cc
             last true f e =
                 let same : u ≡ s = cc in
                 let g = shifted_reads a t u h in
                 rw (← same) (codes_from u c (leb-true _ _ f) g.0 (rw g.1 (l.written c t k)))
 
         go : (o : Option (List ℕ)) → m.codings.string c ≡ o → shift_of r o ≡ Some s → Codes (recoded r m) s c
-        go None k e = absurd (none_some e)
+        go None k e = cc
         go (Some t) k e = gone t k (shifted r t) refl e
 
     read' : (s : List ℕ) (c : ℕ) → Codes (recoded r m) s c → shift_of r (m.codings.string c) ≡ Some s

@@ -4,9 +4,11 @@ use Rattle.charset.specs.declared.SetRefusal.{SetRefusal}
 use Rattle.charset.specs.Meaning.{Meaning}
 use Rattle.charset.specs.Answers.{reading}
 use Rattle.layers.specs.declared.recoding.moves.Move.{Move}
-use Rattle.layers.specs.declared.recoding.moves.Move.TheVariants.{Emit, Hold, Wrong}
+use Rattle.layers.specs.declared.recoding.moves.Move.TheVariants.{Emit, Hold}
 use Rattle.layers.specs.declared.recoding.moves.Form.{Form}
-use Rattle.layers.specs.declared.recoding.moves.Form.TheVariants.{One, Two, Never}
+use Rattle.layers.specs.declared.recoding.moves.Form.TheVariants.{One, Two}
+use Rattle.layers.specs.declared.cause.Cause.TheVariants.{TooLong}
+use Rattle.layers.specs.Causes.{number_of}
 use Rattle.layers.specs.Depth.{own, over}
 
 -- how a string ends: between bytes below, within one, or after a byte that cannot stand there
@@ -15,19 +17,19 @@ pub data End : Type 0 where
 
 -- how bytes are read one by one, after a held byte (true) or not; how a byte below is written; and the cause of a wrong byte
 pub record Recoding : Type 0 where
-  pub step : Bool → ℕ → Move
-  pub form : ℕ → Form
+  pub step : Bool → ℕ → Option Move
+  pub form : ℕ → Option Form
   pub fault : ℕ
 
-abbrev pub put : Move → (Bool → List ℕ) → List ℕ
-put (Emit b) f = b ∷ f false
-put Hold f = f true
-put Wrong f = []
+abbrev pub put : Option Move → (Bool → List ℕ) → List ℕ
+put (Some (Emit b)) f = b ∷ f false
+put (Some Hold) f = f true
+put None f = []
 
-abbrev pub stop : Move → (Bool → End) → End
-stop (Emit b) f = f false
-stop Hold f = f true
-stop Wrong f = broken
+abbrev pub stop : Option Move → (Bool → End) → End
+stop (Some (Emit b)) f = f false
+stop (Some Hold) f = f true
+stop None f = broken
 
 -- the bytes below that the good front of s stands for, and how it ends
 abbrev pub below : Recoding → Bool → List ℕ → List ℕ
@@ -38,11 +40,11 @@ abbrev pub ends : Recoding → Bool → List ℕ → End
 ends r p [] = cond p pending clean
 ends r p (x ∷ s) = stop (r.step p x) (λ q. ends r q s)
 
-abbrev pub before : Form → Option (List ℕ) → Option (List ℕ)
+abbrev pub before : Option Form → Option (List ℕ) → Option (List ℕ)
 before f None = None
-before (One x) (Some s) = Some (x ∷ s)
-before (Two x y) (Some s) = Some (x ∷ y ∷ s)
-before Never (Some s) = None
+before (Some (One x)) (Some s) = Some (x ∷ s)
+before (Some (Two x y)) (Some s) = Some (x ∷ y ∷ s)
+before None (Some s) = None
 
 -- a string below as it is written here
 abbrev pub shifted : Recoding → List ℕ → Option (List ℕ)
@@ -68,7 +70,7 @@ shift_of r None = None
 shift_of r (Some t) = at_most_four (shifted r t)
 
 abbrev pub scan_cause : Recoding → Meaning → List ℕ → SetRefusal
-scan_cause r m s = over (reading m (below r false s)) (own (cond (is_broken (ends r false s)) r.fault 36))
+scan_cause r m s = over (reading m (below r false s)) (own (cond (is_broken (ends r false s)) r.fault (number_of TooLong)))
 
 abbrev pub recoded : Recoding → Meaning → Meaning
 recoded r m = record {
@@ -82,11 +84,11 @@ recoded r m = record {
 
 -- what the bytes' two directions must agree on
 pub record Agrees (r : Recoding) : Type 0 where
-  pub one_step : (b x : ℕ) → r.form b ≡ One x → r.step false x ≡ Emit b
-  pub two_steps : (b x y : ℕ) → r.form b ≡ Two x y → (r.step false x ≡ Hold) × (r.step true y ≡ Emit b)
-  pub step_one : (b x : ℕ) → r.step false x ≡ Emit b → r.form b ≡ One x
-  pub step_two : (b x y : ℕ) → r.step false x ≡ Hold → r.step true y ≡ Emit b → r.form b ≡ Two x y
-  pub no_third : (x : ℕ) → r.step true x ≢ Hold
-  pub first_byte : (p : Bool) (x b : ℕ) → r.step p x ≡ Emit b → x < 256
-  pub held_byte : (x : ℕ) → r.step false x ≡ Hold → x < 256
+  pub one_step : (b x : ℕ) → r.form b ≡ Some (One x) → r.step false x ≡ Some (Emit b)
+  pub two_steps : (b x y : ℕ) → r.form b ≡ Some (Two x y) → (r.step false x ≡ Some Hold) × (r.step true y ≡ Some (Emit b))
+  pub step_one : (b x : ℕ) → r.step false x ≡ Some (Emit b) → r.form b ≡ Some (One x)
+  pub step_two : (b x y : ℕ) → r.step false x ≡ Some Hold → r.step true y ≡ Some (Emit b) → r.form b ≡ Some (Two x y)
+  pub no_third : (x : ℕ) → r.step true x ≢ Some Hold
+  pub first_byte : (p : Bool) (x b : ℕ) → r.step p x ≡ Some (Emit b) → x < 256
+  pub held_byte : (x : ℕ) → r.step false x ≡ Some Hold → x < 256
   pub small_fault : r.fault < 256

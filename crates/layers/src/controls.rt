@@ -1,6 +1,7 @@
 // Control characters beside the characters of a set.
-ghost use Rattle.std.specs.Prelude.{◌≡◌};
-ghost use Rattle.charset.specs.Meaning.{meaning};
+ghost use Rattle.std.specs.Prelude.{◌≡◌, [], ◌∷◌, is_err};
+ghost use Rattle.charset.specs.Answers.{reading};
+ghost use Rattle.charset.specs.Sets.{set_of};
 ghost use Rattle.layers.specs.Layers.{added, controls};
 ghost use Rattle.layers.specs.LayersKeep.{controls_laws};
 
@@ -14,60 +15,48 @@ pub struct Controls<S> {
     pub below: S,
 }
 
-// Whether a byte is chosen, and the set below neither reads it nor writes its character.
-fn is_added<S: CharacterSet>(chosen: &[bool; 32], below: &S, byte: u8) -> bool
-    ensures { result ≡ added chosen.now (meaning (S.CharacterSet.codings below.now) (S.CharacterSet.openings below.now) (S.CharacterSet.causes below.now)) byte }
-{
-    if byte >= 0x20 {
-        return false;
+impl<S: CharacterSet> Controls<S> {
+    // Whether the set below cannot read a byte alone.
+    fn is_refused_below(&self, byte: u8) -> bool
+        ensures { result ≡ is_err (reading (set_of S.CharacterSet self.now.below) (byte ∷ [])) }
+    {
+        self.below.read(&[byte]).is_err()
     }
-    if !chosen[byte as usize] {
-        return false;
-    }
-    match below.read(&[byte]) {
-        Ok(_) => false,
-        Err(_) => match below.write(byte as u32) {
-            Some(_) => false,
-            None => true,
-        },
+
+    // Whether a byte is chosen, and the set below neither reads it nor writes its character.
+    fn adds(&self, byte: u8) -> bool
+        ensures { result ≡ added self.now.chosen (set_of S.CharacterSet self.now.below) byte }
+    {
+        byte < 0x20
+            && self.chosen[usize::from(byte)]
+            && self.is_refused_below(byte)
+            && self.below.write(u32::from(byte)).is_none()
     }
 }
 
 impl<S: CharacterSet> CharacterSet for Controls<S> {
-    ghost codings = { λ p. (controls p.chosen (meaning (S.CharacterSet.codings p.below) (S.CharacterSet.openings p.below) (S.CharacterSet.causes p.below))).codings };
+    ghost codings = { λ p. (controls p.chosen (set_of S.CharacterSet p.below)).codings };
 
-    ghost openings = { λ p. (controls p.chosen (meaning (S.CharacterSet.codings p.below) (S.CharacterSet.openings p.below) (S.CharacterSet.causes p.below))).openings };
+    ghost openings = { λ p. (controls p.chosen (set_of S.CharacterSet p.below)).openings };
 
-    ghost causes = { λ p. (controls p.chosen (meaning (S.CharacterSet.codings p.below) (S.CharacterSet.openings p.below) (S.CharacterSet.causes p.below))).causes };
+    ghost causes = { λ p. (controls p.chosen (set_of S.CharacterSet p.below)).causes };
 
     ghost lawful = { λ p. controls_laws p.chosen (S.CharacterSet.lawful p.below) };
 
     fn read(&self, bytes: &[u8]) -> Result<Reading, SetRefusal> {
-        match self.below.read(bytes) {
-            Ok(reading) => Ok(reading),
-            Err(refusal) => {
-                let [first, ..] = bytes else {
-                    return Err(from_below(refusal));
-                };
-                if is_added(&self.chosen, &self.below, *first) {
-                    Ok(Reading::Found {
-                        character: *first as u32,
-                        length: 1,
-                    })
-                } else {
-                    Err(from_below(refusal))
-                }
-            }
+        match (self.below.read(bytes), bytes) {
+            (Err(_), [first, ..]) if self.adds(*first) => Ok(Reading::Found {
+                character: u32::from(*first),
+                length: 1,
+            }),
+            (answer, _) => answer.map_err(from_below),
         }
     }
 
     fn write(&self, number: u32) -> Option<Coding> {
-        if number < 0x20 {
-            let byte = number as u8;
-            if is_added(&self.chosen, &self.below, byte) {
-                return Some(Coding::new(byte));
-            }
+        match u8::try_from(number) {
+            Ok(byte) if self.adds(byte) => Some(Coding::new(byte)),
+            _ => self.below.write(number),
         }
-        self.below.write(number)
     }
 }

@@ -1,21 +1,15 @@
-// The refusals of a layer: its own, and those from below.
+// A refusal from below, as the layer above tells it.
 ghost use Rattle.std.specs.Prelude.{◌≡◌};
-ghost use Rattle.layers.specs.Depth.{own, up};
+ghost use Rattle.layers.specs.Depth.{up};
 
 use charset::SetRefusal;
-
-pub fn own_refusal(cause: u8) -> SetRefusal
-    ensures { result ≡ own cause }
-{
-    SetRefusal { cause, depth: 0 }
-}
 
 // One layer up.
 pub fn from_below(refusal: SetRefusal) -> SetRefusal
     ensures { result ≡ up refusal }
 {
     SetRefusal {
-        cause: refusal.cause,
         depth: refusal.depth.saturating_add(1),
+        ..refusal
     }
 }

@@ -1,39 +1,45 @@
 // The two byte forms: even parity, and the single shift of 7-bit codes.
-ghost use Rattle.layers.specs.Layers.{parity_bytes, shift_bytes};
+ghost use Rattle.std.specs.Prelude.{◌≡◌};
+ghost use Rattle.layers.specs.Layers.{even, parity_bytes, shift_bytes};
 ghost use Rattle.layers.specs.LayersKeep.{parity_agrees, shift_agrees};
 
+use crate::cause::Cause;
 use crate::recoding::{ByteForm, Form, Move};
+use charset::SetRefusal;
 
 // Seven bits, and an eighth that makes the number of ones even.
 #[derive(Clone, Copy)]
 pub struct EvenParity;
+
+fn is_even(byte: u8) -> bool
+    ensures { result ≡ even byte }
+{
+    byte.count_ones() % 2 == 0
+}
 
 impl ByteForm for EvenParity {
     ghost recoding = { λ _. parity_bytes };
 
     ghost agrees = { λ f. parity_agrees };
 
-    fn step(&self, held: bool, byte: u8) -> Move {
-        if !held && byte.count_ones() % 2 == 0 {
-            Move::Emit(byte % 128)
+    fn step(&self, held: bool, byte: u8) -> Option<Move> {
+        if !held && is_even(byte) {
+            Some(Move::Emit(byte % 128))
         } else {
-            Move::Wrong
+            None
         }
     }
 
-    fn form(&self, byte: u8) -> Form {
-        if byte >= 128 {
-            return Form::Never;
-        }
-        if byte.count_ones() % 2 == 0 {
-            Form::One(byte)
-        } else {
-            Form::One(byte + 128)
+    fn form(&self, byte: u8) -> Option<Form> {
+        match byte {
+            0x80..=0xFF => None,
+            _ if is_even(byte) => Some(Form::One(byte)),
+            _ => Some(Form::One(byte + 128)),
         }
     }
 
-    fn fault(&self) -> u8 {
-        34
+    fn fault(&self) -> SetRefusal {
+        Cause::OddParity.into()
     }
 }
 
@@ -46,40 +52,24 @@ impl ByteForm for SingleShift {
 
     ghost agrees = { λ f. shift_agrees };
 
-    fn step(&self, held: bool, byte: u8) -> Move {
-        if byte >= 0x80 {
-            return Move::Wrong;
-        }
-        if held {
-            return if byte < 0x20 {
-                Move::Wrong
-            } else {
-                Move::Emit(byte + 0x80)
-            };
-        }
-        if byte == 0x19 {
-            Move::Hold
-        } else {
-            Move::Emit(byte)
+    fn step(&self, held: bool, byte: u8) -> Option<Move> {
+        match (held, byte) {
+            (false, 0x19) => Some(Move::Hold),
+            (false, 0..=0x7F) => Some(Move::Emit(byte)),
+            (true, 0x20..=0x7F) => Some(Move::Emit(byte + 0x80)),
+            _ => None,
         }
     }
 
-    fn form(&self, byte: u8) -> Form {
-        if byte < 0x80 {
-            return if byte == 0x19 {
-                Form::Never
-            } else {
-                Form::One(byte)
-            };
-        }
-        if byte < 0xA0 {
-            Form::Never
-        } else {
-            Form::Two(0x19, byte - 0x80)
+    fn form(&self, byte: u8) -> Option<Form> {
+        match byte {
+            0x19 | 0x80..=0x9F => None,
+            0xA0..=0xFF => Some(Form::Two(0x19, byte - 0x80)),
+            _ => Some(Form::One(byte)),
         }
     }
 
-    fn fault(&self) -> u8 {
-        35
+    fn fault(&self) -> SetRefusal {
+        Cause::NotShifted.into()
     }
 }

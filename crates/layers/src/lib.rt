@@ -1,6 +1,7 @@
 // Four layers, each a character set over any character set.
 #![tactic(auto)]
 
+mod cause;
 mod controls;
 mod deeper;
 mod forms;
@@ -10,6 +11,7 @@ mod recoding;
 mod stack;
 mod subrepertoire;
 
+pub use cause::Cause;
 pub use controls::Controls;
 pub use forms::{EvenParity, SingleShift};
 pub use list::{CharacterList, ListRefusal};

@@ -1,11 +1,13 @@
 // A subrepertoire's list of characters.
-ghost use Rattle.std.specs.Prelude.{◌≡◌, ◌<◌, length, IfOk, MatchOption};
+ghost use Rattle.std.specs.Prelude.{◌≡◌, ◌<◌, length, IfOk, MatchOption, MatchResult};
+ghost use Rattle.layers.specs.declared.list.ListRefusal.TheVariants.{NoMemory};
 ghost use Rattle.layers.specs.CharacterList.{required, on_list, rises_at, Rising, Complete, Sound};
 ghost use Rattle.layers.specs.Refusals.{told};
 ghost use Rattle.layers.specs.Filled.{FirstNotRising, FirstMissing, FirstUncoded, AllCoded, Acceptable, Ground, Filled, OneAnswer};
 
 use charset::CharacterSet;
 use std::alloc::{AllocError, Global};
+use std::marker::Model;
 
 // How many characters a list may have.
 const MOST_CHARACTERS: usize = 512;
@@ -26,7 +28,7 @@ const REQUIRED: [u32; 74] = [
 ];
 
 // Why numbers do not become a list.
-#[derive(Clone, Copy)]
+#[derive(Clone, Copy, PartialEq, Eq, Debug)]
 pub enum ListRefusal {
     // There are more than a list may have.
     TooMany,
@@ -41,7 +43,7 @@ pub enum ListRefusal {
 }
 
 impl ListRefusal {
-    // The number that a refusal is told by.
+    // The number that a refusal is told by. No `From`: the value that comes with it would be lost without a word.
     pub fn number(&self) -> u8
         ensures { result ≡ (told self.now).number }
     {
@@ -55,24 +57,43 @@ impl ListRefusal {
     }
 }
 
-// Characters in increasing order, the required ones among them.
+impl From<AllocError> for ListRefusal {
+    ghost from_gives = { λ _ r. r ≡ NoMemory };
+
+    fn from(_error: AllocError) -> Self {
+        Self::NoMemory
+    }
+}
+
+// Characters in increasing order, the required ones among them. In contracts a list is its characters.
 #[derive(Drop)]
 pub struct CharacterList {
     characters: Vec<u32>,
-    ghost sound: { Sound characters.items },
+}
+
+impl Model for CharacterList {
+    ghost use Rattle.std.specs.Prelude.{ℕ, List};
+    ghost use Rattle.layers.specs.CharacterList.{Sound};
+
+    ghost Value = { List ℕ };
+
+    ghost view = { λ l. l.characters.items };
+
+    ghost invariant = { λ l. Sound l.characters.items };
 }
 
 impl CharacterList {
     // The required characters and no others.
     pub fn new(heap: Global) -> Result<CharacterList, AllocError>
-        ensures { IfOk result (λ l. l.characters.items ≡ required) }
+        ensures { IfOk result (λ l. l ≡ required) }
     {
         let characters = REQUIRED.to_vec(heap)?;
         Ok(CharacterList { characters })
     }
 
     pub fn contains(&self, character: u32) -> bool
-        ensures { result ≡ on_list self.now.characters.items character }
+        ensures found { result ≡ on_list self.now character }
+        ensures sound { Sound self.now }
     {
         listed(self.characters.as_slice(), character)
     }
@@ -84,45 +105,40 @@ impl CharacterList {
         numbers: &[u32],
         set: &S,
     ) -> Result<(), ListRefusal>
-        ensures filled { Filled (S.CharacterSet.codings set.now) numbers.now self.old.characters.items result self.new.characters.items }
+        ensures filled { Filled (S.CharacterSet.codings set.now) numbers.now self.old result self.new }
         ensures one_answer { OneAnswer (S.CharacterSet.codings set.now) numbers.now }
     {
-        if let Some(refusal) = refusal_of(numbers, set) {
-            return Err(refusal);
-        }
-        match numbers.to_vec(heap) {
-            Ok(characters) => {
-                self.characters = characters;
-                Ok(())
-            }
-            Err(_) => Err(ListRefusal::NoMemory),
-        }
+        check(numbers, set)?;
+        self.characters = numbers.to_vec(heap)?;
+        Ok(())
     }
 }
 
-// Why the numbers are refused, whatever memory there is.
-fn refusal_of<S: CharacterSet>(numbers: &[u32], set: &S) -> Option<ListRefusal>
-    ensures { MatchOption result (Acceptable (S.CharacterSet.codings set.now) numbers.now) (λ why. Ground (S.CharacterSet.codings set.now) numbers.now (told why)) }
+// Whether numbers make a list, whatever memory there is, or why not.
+fn check<S: CharacterSet>(numbers: &[u32], set: &S) -> Result<(), ListRefusal>
+    ensures { MatchResult result (λ _. Acceptable (S.CharacterSet.codings set.now) numbers.now) (λ why. Ground (S.CharacterSet.codings set.now) numbers.now (told why)) }
 {
     if numbers.len() > MOST_CHARACTERS {
-        return Some(ListRefusal::TooMany);
+        return Err(ListRefusal::TooMany);
     }
     if let Some(index) = first_not_rising(numbers) {
-        return Some(ListRefusal::NotIncreasing(index));
+        return Err(ListRefusal::NotIncreasing(index));
     }
     if let Some(character) = first_missing(numbers) {
-        return Some(ListRefusal::Missing(character));
+        return Err(ListRefusal::Missing(character));
     }
     if let Some(character) = first_uncoded(numbers, set) {
-        return Some(ListRefusal::NoCoding(character));
+        return Err(ListRefusal::NoCoding(character));
     }
-    None
+    Ok(())
 }
 
+// Whether a character is among characters that rise.
 fn listed(characters: &[u32], character: u32) -> bool
+    requires { Rising characters.now }
     ensures { result ≡ on_list characters.now character }
 {
-    characters.contains(&character)
+    characters.binary_search(&character).is_ok()
 }
 
 // Whether the number at an index is at most U+10FFFF and above the one before it.
@@ -130,37 +146,25 @@ fn rises_at(numbers: &[u32], i: usize) -> bool
     requires { i < length numbers.now }
     ensures { result ≡ rises_at numbers.now i }
 {
-    if numbers[i] > LAST_CHARACTER {
-        false
-    } else if i == 0 {
-        true
-    } else {
-        numbers[i - 1] < numbers[i]
-    }
+    numbers[i] <= LAST_CHARACTER && (i == 0 || numbers[i - 1] < numbers[i])
 }
 
 // The first index whose number is not above the one before it or lies over U+10FFFF.
 fn first_not_rising(numbers: &[u32]) -> Option<usize>
     ensures { MatchOption result (Rising numbers.now) (λ i. FirstNotRising numbers.now i) }
 {
-    for i in 0..numbers.len() {
-        if !rises_at(numbers, i) {
-            return Some(i);
-        }
-    }
-    None
+    (0..numbers.len()).find(|i| !rises_at(numbers, *i))
 }
 
-// The smallest required character that is not among the numbers.
+// The smallest required character that is not among the numbers, which rise.
 fn first_missing(numbers: &[u32]) -> Option<u32>
+    requires { Rising numbers.now }
     ensures { MatchOption result (Complete numbers.now) (λ c. FirstMissing numbers.now c) }
 {
-    for character in &REQUIRED {
-        if !listed(numbers, *character) {
-            return Some(*character);
-        }
-    }
-    None
+    REQUIRED
+        .iter()
+        .copied()
+        .find(|character| !listed(numbers, *character))
 }
 
 // The smallest of the numbers, which rise, that has no coding in the set.
@@ -168,10 +172,8 @@ fn first_uncoded<S: CharacterSet>(numbers: &[u32], set: &S) -> Option<u32>
     requires { Rising numbers.now }
     ensures { MatchOption result (AllCoded (S.CharacterSet.codings set.now) numbers.now) (λ c. FirstUncoded (S.CharacterSet.codings set.now) numbers.now c) }
 {
-    for number in numbers {
-        if set.write(*number).is_none() {
-            return Some(*number);
-        }
-    }
-    None
+    numbers
+        .iter()
+        .copied()
+        .find(|number| set.write(*number).is_none())
 }

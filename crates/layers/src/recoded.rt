@@ -1,15 +1,14 @@
 // A set under another form of its bytes.
-ghost use Rattle.std.specs.Prelude.{◌≡◌, ◌<◌, ◌≤◌, length};
-ghost use Rattle.std.specs.Option.{option_map};
-ghost use Rattle.charset.specs.Meaning.{meaning};
-ghost use Rattle.charset.specs.Strings.{bytes_of, joined};
+ghost use Rattle.std.specs.Prelude.{◌≡◌, ◌≤◌, length};
+ghost use Rattle.charset.specs.Sets.{set_of};
 ghost use Rattle.layers.specs.Recoding.{recoded, at_most_four, shifted};
-ghost use Rattle.layers.specs.Scans.{Scans, form_size, size_of, so_far, extended};
+ghost use Rattle.layers.specs.Scans.{Scans, form_size, size_of, extended};
 ghost use Rattle.layers.specs.Recode.{recoded_laws};
 
-use crate::deeper::{from_below, own_refusal};
+use crate::cause::Cause;
+use crate::deeper::from_below;
 use crate::recoding::{ByteForm, Form, Move};
-use charset::{CharacterSet, Coding, Reading, SetRefusal};
+use charset::{CharacterSet, Coding, Front, Reading, SetRefusal};
 
 mod scan;
 
@@ -28,44 +27,34 @@ pub struct Recoded<F, S> {
 fn scan_front<F: ByteForm>(form: &F, string: &[u8]) -> Scan
     ensures { Scans (F.ByteForm.recoding form.now) string.now result }
 {
-    let mut bytes = [0u8; 4];
-    let mut len = 0;
+    let mut below = Front::empty();
     let mut held = false;
-    let mut at = 0;
-    'scan: while at < 4 && at < string.len() {
-        match form.step(held, string[at]) {
-            Move::Emit(byte) => {
-                bytes[len] = byte;
-                len += 1;
+    for byte in &string[..string.len().min(LONGEST_CODING)] {
+        match form.step(held, *byte) {
+            Some(Move::Emit(emitted)) => {
+                below = below.then(emitted).unwrap();
                 held = false;
-            }
-            Move::Hold => {
-                held = true;
-            }
-            Move::Wrong => {
-                return Scan {
-                    bytes,
-                    len,
-                    broken: true,
-                };
-            }
+            },
+            Some(Move::Hold) => held = true,
+            None => return Scan {
+                below,
+                broken: true,
+            },
         }
-        at += 1;
     }
     Scan {
-        bytes,
-        len,
+        below,
         broken: false,
     }
 }
 
-fn form_size(form: Form) -> usize
+fn form_size(form: Option<Form>) -> usize
     ensures { result ≡ form_size form }
 {
     match form {
-        Form::One(_) => 1,
-        Form::Two(_, _) => 2,
-        Form::Never => 0,
+        Some(Form::One(_)) => 1,
+        Some(Form::Two(_, _)) => 2,
+        None => 0,
     }
 }
 
@@ -74,83 +63,55 @@ fn written_size<F: ByteForm>(form: &F, string: &[u8]) -> usize
     requires { length string.now ≤ 4 }
     ensures { result ≡ size_of (F.ByteForm.recoding form.now) string.now }
 {
-    let mut size = 0;
-    for byte in string {
-        size += form_size(form.form(*byte));
-    }
-    size
+    string.iter().map(|byte| form_size(form.form(*byte))).sum()
 }
 
-// A coding with one more byte behind, or of that byte alone where there is none yet.
-fn append(coding: Option<Coding>, byte: u8) -> Option<Coding>
-    ensures { option_map bytes_of result ≡ joined (so_far coding) byte }
-{
-    match coding {
-        None => Some(Coding::new(byte)),
-        Some(coding) => coding.then(byte),
-    }
-}
-
-// A coding with a byte below behind, as it is written here.
-fn append_form(coding: Option<Coding>, form: Form) -> Option<Coding>
-    ensures { option_map bytes_of result ≡ extended (so_far coding) form }
+// A byte below behind, as it is written here.
+fn append(front: Front, form: Form) -> Option<Front>
+    ensures { result ≡ extended front form }
 {
     match form {
-        Form::One(first) => append(coding, first),
-        Form::Two(first, second) => append(coding, first)?.then(second),
-        Form::Never => None,
+        Form::One(byte) => front.then(byte),
+        Form::Two(first, second) => front.then(first)?.then(second),
     }
 }
 
 // The bytes below as they are written here, if they take at most four.
-fn recode<F: ByteForm>(form: &F, bytes: &[u8]) -> Option<Coding>
-    ensures { 0 < length bytes.now → option_map bytes_of result ≡ at_most_four (shifted (F.ByteForm.recoding form.now) bytes.now) }
+fn recode<F: ByteForm>(form: &F, bytes: &[u8]) -> Option<Front>
+    ensures { result ≡ at_most_four (shifted (F.ByteForm.recoding form.now) bytes.now) }
 {
-    let mut coding = None;
+    let mut written = Front::empty();
     for byte in bytes {
-        coding = Some(append_form(coding, form.form(*byte))?);
+        written = append(written, form.form(*byte)?)?;
     }
-    coding
+    Some(written)
 }
 
 impl<F: ByteForm, S: CharacterSet> CharacterSet for Recoded<F, S> {
-    ghost codings = { λ p. (recoded (F.ByteForm.recoding p.form) (meaning (S.CharacterSet.codings p.below) (S.CharacterSet.openings p.below) (S.CharacterSet.causes p.below))).codings };
+    ghost codings = { λ p. (recoded (F.ByteForm.recoding p.form) (set_of S.CharacterSet p.below)).codings };
 
-    ghost openings = { λ p. (recoded (F.ByteForm.recoding p.form) (meaning (S.CharacterSet.codings p.below) (S.CharacterSet.openings p.below) (S.CharacterSet.causes p.below))).openings };
+    ghost openings = { λ p. (recoded (F.ByteForm.recoding p.form) (set_of S.CharacterSet p.below)).openings };
 
-    ghost causes = { λ p. (recoded (F.ByteForm.recoding p.form) (meaning (S.CharacterSet.codings p.below) (S.CharacterSet.openings p.below) (S.CharacterSet.causes p.below))).causes };
+    ghost causes = { λ p. (recoded (F.ByteForm.recoding p.form) (set_of S.CharacterSet p.below)).causes };
 
     ghost lawful = { λ p. recoded_laws _ _ (F.ByteForm.agrees p.form) (S.CharacterSet.lawful p.below) };
 
     fn read(&self, bytes: &[u8]) -> Result<Reading, SetRefusal> {
         let scan = scan_front(&self.form, bytes);
-        match self.below.read(&scan.bytes[0..scan.len]) {
-            Ok(reading) => match reading {
-                Reading::Found { character, length } => {
-                    let size = written_size(&self.form, &scan.bytes[0..length]);
-                    Ok(Reading::Found {
-                        character,
-                        length: size,
-                    })
-                }
-                Reading::Open => {
-                    if scan.broken {
-                        Err(own_refusal(self.form.fault()))
-                    } else if bytes.len() >= LONGEST_CODING {
-                        Err(own_refusal(36))
-                    } else {
-                        Ok(Reading::Open)
-                    }
-                }
-            },
-            Err(refusal) => Err(from_below(refusal)),
+        let below = scan.below.as_bytes();
+        match self.below.read(below).map_err(from_below)? {
+            Reading::Found { character, length } => Ok(Reading::Found {
+                character,
+                length: written_size(&self.form, &below[..length]),
+            }),
+            Reading::Open if scan.broken => Err(self.form.fault()),
+            Reading::Open if bytes.len() >= LONGEST_CODING => Err(Cause::TooLong.into()),
+            Reading::Open => Ok(Reading::Open),
         }
     }
 
     fn write(&self, number: u32) -> Option<Coding> {
-        match self.below.write(number) {
-            Some(coding) => recode(&self.form, coding.as_bytes()),
-            None => None,
-        }
+        let below = self.below.write(number)?;
+        Coding::of(recode(&self.form, below.as_bytes())?)
     }
 }

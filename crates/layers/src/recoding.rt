@@ -1,6 +1,9 @@
 // Byte forms: how a byte of the set below is written as one or two bytes, and read again.
 ghost use Rattle.std.specs.Prelude.{◌≡◌};
+ghost use Rattle.layers.specs.Depth.{own};
 ghost use Rattle.layers.specs.Recoding.{Recoding, Agrees};
+
+use charset::SetRefusal;
 
 pub mod moves;
 
@@ -9,17 +12,17 @@ pub use moves::{Form, Move};
 pub trait ByteForm {
     ghost recoding: { Self → Recoding };
 
-    // What reading one more byte does, after a byte that is held or not.
-    fn step(&self, held: bool, byte: u8) -> Move
+    // What reading one more byte does, after a byte that is held or not; none if the byte cannot stand there.
+    fn step(&self, held: bool, byte: u8) -> Option<Move>
         ensures { result ≡ (recoding self.now).step held byte };
 
-    // How a byte below is written.
-    fn form(&self, byte: u8) -> Form
+    // How a byte below is written, if it can be.
+    fn form(&self, byte: u8) -> Option<Form>
         ensures { result ≡ (recoding self.now).form byte };
 
-    // The cause of a byte that cannot stand where it does.
-    fn fault(&self) -> u8
-        ensures { result ≡ (recoding self.now).fault };
+    // The refusal of a byte that cannot stand where it does.
+    fn fault(&self) -> SetRefusal
+        ensures { result ≡ own (recoding self.now).fault };
 
     // Reading and writing a byte undo one another.
     ghost agrees: { (f : Self) → Agrees (recoding f) };

@@ -1,6 +1,7 @@
 // Putting a layer on a set. On every set that keeps the laws the layer keeps them too, and means just what its clause says.
 ghost use Rattle.std.specs.Prelude.{◌≡◌};
-ghost use Rattle.charset.specs.Meaning.{meaning, Laws};
+ghost use Rattle.charset.specs.Meaning.{Laws};
+ghost use Rattle.charset.specs.Sets.{set_of};
 ghost use Rattle.layers.specs.Layers.{parity, shift, sub, controls};
 ghost use Rattle.layers.specs.Words.{ParityMeaning, ShiftMeaning, SubMeaning, ControlsMeaning};
 
@@ -17,8 +18,8 @@ pub type Shift<S> = Recoded<SingleShift, S>;
 
 pub fn with_parity<S: CharacterSet>(below: S) -> Parity<S>
     ensures on { result.below ≡ below }
-    ensures keeps_laws { Laws (parity (meaning (S.CharacterSet.codings below) (S.CharacterSet.openings below) (S.CharacterSet.causes below))) }
-    ensures means_parity { ParityMeaning (meaning (S.CharacterSet.codings below) (S.CharacterSet.openings below) (S.CharacterSet.causes below)) }
+    ensures keeps_laws { Laws (parity (set_of S.CharacterSet below)) }
+    ensures means_parity { ParityMeaning (set_of S.CharacterSet below) }
 {
     Recoded {
         form: EvenParity,
@@ -26,10 +27,11 @@ pub fn with_parity<S: CharacterSet>(below: S) -> Parity<S>
     }
 }
 
+// Not one function with `with_parity`: each promises what its own form means, which one for all forms cannot say.
 pub fn with_shift<S: CharacterSet>(below: S) -> Shift<S>
     ensures on { result.below ≡ below }
-    ensures keeps_laws { Laws (shift (meaning (S.CharacterSet.codings below) (S.CharacterSet.openings below) (S.CharacterSet.causes below))) }
-    ensures means_shift { ShiftMeaning (meaning (S.CharacterSet.codings below) (S.CharacterSet.openings below) (S.CharacterSet.causes below)) }
+    ensures keeps_laws { Laws (shift (set_of S.CharacterSet below)) }
+    ensures means_shift { ShiftMeaning (set_of S.CharacterSet below) }
 {
     Recoded {
         form: SingleShift,
@@ -39,16 +41,16 @@ pub fn with_shift<S: CharacterSet>(below: S) -> Shift<S>
 
 pub fn with_controls<S: CharacterSet>(chosen: [bool; 32], below: S) -> Controls<S>
     ensures on { (result.below ≡ below) × (result.chosen ≡ chosen) }
-    ensures keeps_laws { Laws (controls chosen (meaning (S.CharacterSet.codings below) (S.CharacterSet.openings below) (S.CharacterSet.causes below))) }
-    ensures means_controls { ControlsMeaning chosen (meaning (S.CharacterSet.codings below) (S.CharacterSet.openings below) (S.CharacterSet.causes below)) }
+    ensures keeps_laws { Laws (controls chosen (set_of S.CharacterSet below)) }
+    ensures means_controls { ControlsMeaning chosen (set_of S.CharacterSet below) }
 {
     Controls { chosen, below }
 }
 
 pub fn with_list<S: CharacterSet>(list: CharacterList, below: S) -> Subrepertoire<S>
-    ensures on { (result.below ≡ below) × (result.list.characters.items ≡ list.characters.items) }
-    ensures keeps_laws { Laws (sub list.characters.items (meaning (S.CharacterSet.codings below) (S.CharacterSet.openings below) (S.CharacterSet.causes below))) }
-    ensures means_subrepertoire { SubMeaning list.characters.items (meaning (S.CharacterSet.codings below) (S.CharacterSet.openings below) (S.CharacterSet.causes below)) }
+    ensures on { (result.below ≡ below) × (result.list ≡ list) }
+    ensures keeps_laws { Laws (sub list (set_of S.CharacterSet below)) }
+    ensures means_subrepertoire { SubMeaning list (set_of S.CharacterSet below) }
 {
     Subrepertoire { list, below }
 }

@@ -1,9 +1,10 @@
 // The characters of a set that stand on a list.
-ghost use Rattle.charset.specs.Meaning.{meaning};
+ghost use Rattle.charset.specs.Sets.{set_of};
 ghost use Rattle.layers.specs.Layers.{sub};
 ghost use Rattle.layers.specs.LayersKeep.{sub_laws};
 
-use crate::deeper::{from_below, own_refusal};
+use crate::cause::Cause;
+use crate::deeper::from_below;
 use crate::list::CharacterList;
 use charset::{CharacterSet, Coding, Reading, SetRefusal};
 
@@ -14,27 +15,20 @@ pub struct Subrepertoire<S> {
 }
 
 impl<S: CharacterSet> CharacterSet for Subrepertoire<S> {
-    ghost codings = { λ p. (sub p.list.characters.items (meaning (S.CharacterSet.codings p.below) (S.CharacterSet.openings p.below) (S.CharacterSet.causes p.below))).codings };
+    ghost codings = { λ p. (sub p.list (set_of S.CharacterSet p.below)).codings };
 
-    ghost openings = { λ p. (sub p.list.characters.items (meaning (S.CharacterSet.codings p.below) (S.CharacterSet.openings p.below) (S.CharacterSet.causes p.below))).openings };
+    ghost openings = { λ p. (sub p.list (set_of S.CharacterSet p.below)).openings };
 
-    ghost causes = { λ p. (sub p.list.characters.items (meaning (S.CharacterSet.codings p.below) (S.CharacterSet.openings p.below) (S.CharacterSet.causes p.below))).causes };
+    ghost causes = { λ p. (sub p.list (set_of S.CharacterSet p.below)).causes };
 
-    ghost lawful = { λ p. sub_laws p.list.characters.items (S.CharacterSet.lawful p.below) };
+    ghost lawful = { λ p. sub_laws p.list (S.CharacterSet.lawful p.below) };
 
     fn read(&self, bytes: &[u8]) -> Result<Reading, SetRefusal> {
-        match self.below.read(bytes) {
-            Ok(reading) => match reading {
-                Reading::Found { character, length } => {
-                    if self.list.contains(character) {
-                        Ok(Reading::Found { character, length })
-                    } else {
-                        Err(own_refusal(37))
-                    }
-                }
-                Reading::Open => Ok(Reading::Open),
+        match self.below.read(bytes).map_err(from_below)? {
+            Reading::Found { character, .. } if !self.list.contains(character) => {
+                Err(Cause::NotListed.into())
             },
-            Err(refusal) => Err(from_below(refusal)),
+            reading => Ok(reading),
         }
     }
 

@@ -1,15 +1,13 @@
-use Rattle.std.proofs.Common.{sym, below_more}
-use Rattle.layers.specs.CharacterList.{required}
-use Rattle.layers.proofs.Firsts.{missing_here, none_missing}
+use Rattle.std.proofs.Common.{◌≡◌, true, false, rules}
+use borrow.Author.Tests.{tests}
+use Rattle.std.proofs.lemmas.Iterator.{YieldsList-from_slice, first_from_find}
+use Rattle.std.proofs.lemmas.Iterator.Consumers.{YieldsList-from_copied}
+use Rattle.layers.specs.CharacterList.{required, on_list}
+use Rattle.layers.proofs.Firsts.{first_missing}
 use Rattle.layers.proofs.list.first_missing.Goals as goal
 
-pub returns-then-not-listed : goal.returns-then-not-listed
-unfolding required
-returns-then-not-listed c = missing_here c.args.numbers.now c.loop-character.character-index c.loop-character.invariant c.loop-character-test.true (sym c.if-not-listed.ensures)
-
-pub loop-character-preserved : goal.loop-character-preserved
-unfolding required
-loop-character-preserved c = below_more _ _ c.loop-character.invariant (sym c.if-not-listed.ensures)
-
 pub returns : goal.returns
-returns c = none_missing _ _ c.loop-character.invariant c.loop-character-test.false
+unfolding required
+returns c =
+    let xs = c.args.numbers.now in
+    first_missing xs c.find.result (first_from_find _ _ c.find.result (λ d. on_list xs d ≡ false) (λ d. on_list xs d ≡ true) c.find.ensures.ran (YieldsList-from_copied (YieldsList-from_slice required (cc))) (λ d q k. search (rules, tests)) (λ d q k. search (rules, tests)))

@@ -1,12 +1,11 @@
-use Rattle.std.proofs.Common.{below_more}
-use Rattle.layers.proofs.Firsts.{uncoded_here, none_uncoded, unwritten, written}
+use Rattle.std.proofs.Common.{◌≡◌, None, rules}
+use borrow.Author.Tests.{tests}
+use Rattle.std.proofs.lemmas.Iterator.{YieldsList-from_slice, first_from_find}
+use Rattle.std.proofs.lemmas.Iterator.Consumers.{YieldsList-from_copied}
+use Rattle.layers.proofs.Firsts.{first_uncoded}
 use Rattle.layers.proofs.list.first_uncoded.Goals as goal
 
-pub returns-then-is_none : goal.returns-then-is_none
-returns-then-is_none g c = uncoded_here _ _ _ c.loop-number.invariant c.requires c.loop-number-test.true (unwritten _ _ _ c.write.ensures c.if-is_none.ensures)
-
-pub loop-number-preserved : goal.loop-number-preserved
-loop-number-preserved g c = below_more _ _ c.loop-number.invariant (written _ _ _ c.write.ensures c.if-is_none.ensures)
-
 pub returns : goal.returns
-returns g c = none_uncoded (g.S.CharacterSet.codings c.args.set.now) _ _ c.loop-number.invariant c.loop-number-test.false
+returns g c =
+    let k = g.S.CharacterSet.codings c.args.set.now in
+    first_uncoded _ c.args.numbers.now c.requires c.find.result (first_from_find _ _ c.find.result (λ d. k.string d ≡ None) (λ d. k.string d ≡ None → ⊥) c.find.ensures.ran (YieldsList-from_copied (YieldsList-from_slice c.args.numbers.now (cc))) (λ d q h. search (rules, tests)) (λ d q h. search (rules, tests)))

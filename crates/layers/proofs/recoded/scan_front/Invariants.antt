@@ -1,9 +1,13 @@
-use Rattle.std.proofs.Common.{◌-◌}
-use Rattle.layers.proofs.Scanning.{Far}
+use Rattle.std.proofs.Common.{◌≡◌, ◌≤◌, false, ◌++◌, length, drop}
+use Rattle.layers.specs.Recoding.{below, ends}
 use Rattle.layers.proofs.recoded.scan_front.Given as goal
 
-abbrev pub invariant-scan : goal.invariant-scan
-invariant-scan g l = Far (g.F.ByteForm.recoding l.form) l.string l.bytes l.len l.held l.at
-
-abbrev pub decreases-scan : goal.decreases-scan
-decreases-scan g l = 4 - l.at
+-- the first bytes stand for the bytes below so far, and the others for what follows
+abbrev pub invariant-loop-byte : goal.invariant-loop-byte
+invariant-loop-byte g l =
+    let r = g.F.ByteForm.recoding l.form in
+    record {
+      few : length l.below ≤ l.byte-index;
+      stands : below r false l.byte-items ≡ l.below ++ below r l.held (drop l.byte-index l.byte-items);
+      goes_on : ends r false l.byte-items ≡ ends r l.held (drop l.byte-index l.byte-items);
+    }

@@ -1,9 +1,9 @@
-use Rattle.std.proofs.Common.{refl}
 use Rattle.layers.specs.LayersKeep.{parity_laws}
 use Rattle.layers.proofs.Wording.{parity_meaning}
 use Rattle.layers.proofs.stack.with_parity.Goals as goal
 
-pub returns : goal.returns
-returns g c =
-    let l = g.met.S.CharacterSet.lawful c.args.below in
-    record { on = refl; keeps_laws = parity_laws l; means_parity = parity_meaning _ l }
+pub returns-clause-keeps_laws : goal.returns-clause-keeps_laws
+returns-clause-keeps_laws g c = parity_laws (g.met.S.CharacterSet.lawful c.args.below)
+
+pub returns-clause-means_parity : goal.returns-clause-means_parity
+returns-clause-means_parity g c = parity_meaning _ (g.met.S.CharacterSet.lawful c.args.below)

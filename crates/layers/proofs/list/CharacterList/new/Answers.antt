@@ -7,7 +7,7 @@ pub invariant_of-result : goal.invariant_of-result
 unfolding required
 invariant_of-result c =
     let same : vec_items c.in_ok-characters.characters ≡ required = c.in_ok-characters.ensures.items_if_clones_equal (λ x y e. e) in
-    record { sound = subst Sound (sym same) required_sound }
+    subst Sound (sym same) required_sound
 
 pub returns : goal.returns
 unfolding required

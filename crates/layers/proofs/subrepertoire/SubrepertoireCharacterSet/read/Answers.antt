@@ -1,9 +1,13 @@
-use Rattle.std.proofs.Common.{vec_items}
-use Rattle.layers.proofs.SubReads.{off_list, refused_below}
+use Rattle.std.proofs.Common.{◌≡◌, Err, rules}
+use Rattle.layers.proofs.LayerReads.{sub_read, sub_answer}
 use Rattle.layers.proofs.subrepertoire.SubrepertoireCharacterSet.read.Goals as goal
 
-pub returns-else-contains : goal.returns-else-contains
-returns-else-contains g c = off_list (vec_items c.args.self.now.list.characters) (g.met.S.CharacterSet.lawful c.args.self.now.below) c.args.bytes.now _ _ _ _ c.in-Found.is c.in-Ok.ensures c.if-contains.ensures c.own_refusal.ensures
+pub returns-in_err-reading : goal.returns-in_err-reading
+returns-in_err-reading g c =
+    let e : c.from_residual.result ≡ sub_read c.args.self.now.list c.read.result = search rules in
+    sub_answer c.args.self.now.list (g.met.S.CharacterSet.lawful c.args.self.now.below) _ _ _ c.read.ensures e
 
-pub returns-in-Err : goal.returns-in-Err
-returns-in-Err g c = refused_below (vec_items c.args.self.now.list.characters) (g.met.S.CharacterSet.lawful c.args.self.now.below) c.args.bytes.now _ _ c.in-Err.ensures c.from_below.ensures
+pub returns-in-Found : goal.returns-in-Found
+returns-in-Found g c =
+    let e : Err c.into.result ≡ sub_read c.args.self.now.list c.read.result = search rules in
+    sub_answer c.args.self.now.list (g.met.S.CharacterSet.lawful c.args.self.now.below) _ _ _ c.read.ensures e
