@@ -4,7 +4,7 @@ ghost use Rattle.charset.specs.Strings.{joined};
 
 use std::marker::Model;
 
-// In contracts a front is its list of bytes.
+// In contracts a front is its list of bytes. Four places and a length: a front is copied and needs no memory, as a `Vec` would.
 #[derive(Clone, Copy)]
 pub struct Front {
     bytes: [u8; 4],
@@ -45,6 +45,14 @@ impl Front {
             bytes: [first, 0, 0, 0],
             len: 1,
         }
+    }
+
+    // How many bytes there are.
+    pub fn len(&self) -> usize
+        ensures value { result ≡ length self.now }
+        ensures few { result ≤ 4 }
+    {
+        self.as_bytes().len()
     }
 
     // With one more byte behind; none if it has four already.

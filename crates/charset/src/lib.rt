@@ -15,7 +15,8 @@ pub use by_laws::read_front;
 pub use coding::Coding;
 pub use front::Front;
 
-// Why a string cannot be read: the number of the cause, and how many layers above the one that refused it.
+// Why a string cannot be read: the number of the cause, and how many layers above the one that refused it. A number and no enum, since
+// any set may have causes of its own.
 #[derive(Clone, Copy, PartialEq, Eq, Debug)]
 pub struct SetRefusal {
     pub cause: u8,
@@ -23,7 +24,7 @@ pub struct SetRefusal {
 }
 
 // What stands in front of a string: a character's coding of that length, or nothing yet, where the whole string is
-// an opening.
+// an opening. No `Option`: that more bytes may complete a coding is said by `Open`, and would not be by `None`.
 #[derive(Clone, Copy, PartialEq, Eq, Debug)]
 pub enum Reading {
     Found { character: u32, length: usize },

@@ -1,3 +1,4 @@
 pub mod Windows
 pub mod Leading
 pub mod Turns
+pub mod Once

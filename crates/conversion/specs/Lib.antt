@@ -1,4 +1,4 @@
-pub mod Fronts
 pub mod Stops
 pub mod Steps
 pub mod Runs
+pub mod Transcribed

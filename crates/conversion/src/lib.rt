@@ -4,14 +4,11 @@
 ghost use Rattle.std.specs.Prelude.{◌≡◌, ◌≤◌, ◌++◌, length, drop};
 ghost use Rattle.charset.specs.Sets.{set_of};
 ghost use Rattle.conversion.specs.declared.Fault.TheVariants.{Unread};
-ghost use Rattle.conversion.specs.Fronts.{front_bytes};
 ghost use Rattle.conversion.specs.Steps.{Steps};
 ghost use Rattle.conversion.specs.Runs.{Runs};
 
-mod front;
-
+pub use charset::Front;
 use charset::{CharacterSet, Reading, SetRefusal};
-pub use front::Front;
 
 // Why a transcript cannot go on.
 #[derive(Clone, Copy, PartialEq, Eq, Debug)]
@@ -41,7 +38,8 @@ pub enum Pause {
     Full,
 }
 
-// What comes of one character.
+// What comes of one character, where there is no fault. A pause is no error, since the conversion goes on with the next bytes or the
+// next output, and so it stands beside what is written.
 #[derive(Clone, Copy)]
 pub enum Step {
     // It was read from so many bytes, and written as so many.
@@ -58,7 +56,8 @@ pub struct Run {
     pub end: Result<Pause, Fault>,
 }
 
-// The character in front of the input into the front of the output.
+// The character in front of the input into the front of the output. The two sets are parameters of each function here: a struct of two
+// references would be made for each call and say no more.
 pub fn convert_one<S: CharacterSet, T: CharacterSet>(
     source: &S,
     target: &T,
@@ -67,25 +66,20 @@ pub fn convert_one<S: CharacterSet, T: CharacterSet>(
 ) -> Result<Step, Fault>
     ensures { Steps (set_of S.CharacterSet source.now) (set_of T.CharacterSet target.now) input.now output.old output.new result }
 {
-    let reading = source.read(input)?;
-    match reading {
-        Reading::Open => Ok(Step::Paused(Pause::Open)),
-        Reading::Found { character, length } => {
-            let Some(coding) = target.write(character) else {
-                return Err(Fault::Unwritten(character));
-            };
-            let bytes = coding.as_bytes();
-            let written = bytes.len();
-            if output.len() < written {
-                return Ok(Step::Paused(Pause::Full));
-            }
-            output[0..written].copy_from_slice(bytes);
-            Ok(Step::Written {
-                read: length,
-                written,
-            })
-        }
+    let Reading::Found { character, length } = source.read(input)? else {
+        return Ok(Step::Paused(Pause::Open));
+    };
+    let coding = target.write(character).ok_or(Fault::Unwritten(character))?;
+    let bytes = coding.as_bytes();
+    let written = bytes.len();
+    if output.len() < written {
+        return Ok(Step::Paused(Pause::Full));
     }
+    output[..written].copy_from_slice(bytes);
+    Ok(Step::Written {
+        read: length,
+        written,
+    })
 }
 
 // The character that stands `at` bytes behind the start of the held bytes and then the sector. As long as it begins among the held
@@ -98,8 +92,8 @@ fn convert_at<S: CharacterSet, T: CharacterSet>(
     at: usize,
     output: &mut [u8],
 ) -> Result<Step, Fault>
-    requires { at ≤ length (front_bytes held ++ sector.now) }
-    ensures { Steps (set_of S.CharacterSet source.now) (set_of T.CharacterSet target.now) (drop at (front_bytes held ++ sector.now)) output.old output.new result }
+    requires { at ≤ length (held ++ sector.now) }
+    ensures { Steps (set_of S.CharacterSet source.now) (set_of T.CharacterSet target.now) (drop at (held ++ sector.now)) output.old output.new result }
 {
     let bytes = held.as_bytes();
     if at < bytes.len() {
@@ -110,7 +104,8 @@ fn convert_at<S: CharacterSet, T: CharacterSet>(
     }
 }
 
-// The held bytes and then the sector, character after character, into the output, until something ends it.
+// The held bytes and then the sector, character after character, into the output, until something ends it. A loop, since what is read and written
+// decides where the next character is read and written.
 pub fn convert<S: CharacterSet, T: CharacterSet>(
     source: &S,
     target: &T,
@@ -118,39 +113,32 @@ pub fn convert<S: CharacterSet, T: CharacterSet>(
     sector: &[u8],
     output: &mut [u8],
 ) -> Run
-    ensures { Runs (set_of S.CharacterSet source.now) (set_of T.CharacterSet target.now) (front_bytes held ++ sector.now) output.old output.new result }
+    ensures { Runs (set_of S.CharacterSet source.now) (set_of T.CharacterSet target.now) (held ++ sector.now) output.old output.new result }
 {
+    prove!(held.len() <= 4);
     let mut characters = 0;
     let mut read = 0;
     let mut written = 0;
-    'run: loop {
+    let end = 'run: loop {
         match convert_at(source, target, held, sector, read, &mut output[written..]) {
-            Ok(step) => match step {
+            Ok(
                 Step::Written {
                     read: more,
                     written: put,
-                } => {
-                    characters += 1;
-                    read += more;
-                    written += put;
-                }
-                Step::Paused(pause) => {
-                    return Run {
-                        characters,
-                        read,
-                        written,
-                        end: Ok(pause),
-                    };
-                }
-            },
-            Err(fault) => {
-                return Run {
-                    characters,
-                    read,
-                    written,
-                    end: Err(fault),
-                };
+                },
+            ) => {
+                characters += 1;
+                read += more;
+                written += put;
             }
+            Ok(Step::Paused(pause)) => break Ok(pause),
+            Err(fault) => break Err(fault),
         }
+    };
+    Run {
+        characters,
+        read,
+        written,
+        end,
     }
 }

@@ -1,5 +1,3 @@
 pub mod Stops
-pub mod Transcribed
-pub mod Examples
+pub mod Next
 pub mod Report
-pub mod PageControls

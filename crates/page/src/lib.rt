@@ -1,47 +1,35 @@
 // A whole page from one character set into another.
 #![tactic(auto)]
 
-ghost use Rattle.std.specs.Prelude.{◌≡◌, ℕ, IfOk, string_bytes};
-ghost use Rattle.charset.specs.Meaning.{meaning};
+ghost use Rattle.std.specs.Prelude.{◌≡◌, IfOk, string_bytes};
+ghost use Rattle.charset.specs.Sets.{set_of};
 ghost use Rattle.sets.specs.Iso6937.{iso6937};
 ghost use Rattle.sets.specs.Utf8.{utf8};
-ghost use Rattle.page.specs.Examples.{WorkedExamples};
-ghost use Rattle.page.specs.Stops.{number_of, AlwaysWritten};
+ghost use Rattle.page_stacks.specs.Examples.{WorkedExamples};
+ghost use Rattle.conversion.specs.Transcribed.{TheTranscript};
+ghost use Rattle.page.specs.Next.{ComesNext};
 ghost use Rattle.page.specs.Report.{line_of, Reports};
-ghost use Rattle.page.specs.Transcribed.{TheTranscript};
+ghost use Rattle.page.specs.Stops.{number_of, AlwaysWritten};
 
-mod stacks;
-
-use charset::{CharacterSet, Reading, SetRefusal, read_front};
+use charset::{CharacterSet, Coding, Reading, read_front};
+// Why a page is not read to its end is what faults a transcript.
+pub use conversion::Fault as Stop;
+pub use page_stacks::{read_three_deep, read_with_parity};
 use sets::{Iso6937, Utf8};
-pub use stacks::{read_three_deep, read_with_parity};
 use std::alloc::{AllocError, Global};
 
-// Why a page is not read to its end.
-#[derive(Clone, Copy)]
-pub enum Stop {
-    // No coding stands in front, and what is left is no opening.
-    Unread(SetRefusal),
-    // The character has no coding in the target set.
-    Unwritten(u32),
-    // The page ends in an opening.
-    Unfinished,
-}
-
-impl Stop {
-    // The number that a refusal is told by.
-    pub fn number(&self) -> u8
-        ensures { result ≡ number_of self.now }
-    {
-        match self {
-            Stop::Unread(refusal) => refusal.cause,
-            Stop::Unwritten(_) => 7,
-            Stop::Unfinished => 9,
-        }
+// The number that a stop is told by: a set's refusal by its cause. No `From`, since a `Fault` has another number elsewhere.
+pub fn stop_number(stop: Stop) -> u8
+    ensures { result ≡ number_of stop }
+{
+    match stop {
+        Stop::Unread(refusal) => refusal.cause,
+        Stop::Unwritten(_) => 7,
+        Stop::Unfinished => 9,
     }
 }
 
-// The text of a page up to its end or its stop, how many characters that is, and how many bytes of the page they take.
+// The text of a page up to its end or its stop (which stands beside the text and not in its place, so it is no `Err`), how many characters that is, and how many bytes of the page they take.
 #[derive(Drop)]
 pub struct Page {
     pub text: Vec<u8>,
@@ -59,7 +47,7 @@ impl Page {
         match self.stop {
             None => format!(in heap; "{characters} ok"),
             Some(stop) => {
-                let number = stop.number();
+                let number = stop_number(stop);
                 let offset = self.offset;
                 format!(in heap; "{characters} {number}@{offset}")
             }
@@ -67,60 +55,58 @@ impl Page {
     }
 }
 
-// Reads a page in one set and writes it in another, up to its end or its stop.
+// The next character's coding in the target set, and how many bytes it is read from; none at the end of the page.
+fn next_coding<S: CharacterSet, T: CharacterSet>(
+    source: &S,
+    target: &T,
+    rest: &[u8],
+) -> Result<Option<(Coding, usize)>, Stop>
+    ensures { ComesNext (set_of S.CharacterSet source.now) (set_of T.CharacterSet target.now) rest.now result }
+{
+    match read_front(source, rest)? {
+        Reading::Found { character, length } => {
+            let coding = target.write(character).ok_or(Stop::Unwritten(character))?;
+            Ok(Some((coding, length)))
+        }
+        Reading::Open => {
+            if rest.is_empty() {
+                Ok(None)
+            } else {
+                Err(Stop::Unfinished)
+            }
+        }
+    }
+}
+
+// Reads a page in one set and writes it in another, up to its end or its stop. A loop, since what is read decides where the next reading begins.
 pub fn transcribe<S: CharacterSet, T: CharacterSet>(
     heap: Global,
     source: &S,
     target: &T,
     bytes: &[u8],
 ) -> Result<Page, AllocError>
-    ensures { IfOk result (λ p. TheTranscript (meaning (S.CharacterSet.codings source.now) (S.CharacterSet.openings source.now) (S.CharacterSet.causes source.now)) (meaning (T.CharacterSet.codings target.now) (T.CharacterSet.openings target.now) (T.CharacterSet.causes target.now)) bytes.now p.text.items p.characters p.offset p.stop) }
+    ensures { IfOk result (λ p. TheTranscript (set_of S.CharacterSet source.now) (set_of T.CharacterSet target.now) bytes.now p.text.items p.characters p.offset p.stop) }
 {
     let mut text = Vec::new(heap);
     let mut characters = 0;
     let mut offset = 0;
-    'page: loop {
-        match read_front(source, &bytes[offset..]) {
-            Ok(reading) => match reading {
-                Reading::Found { character, length } => match target.write(character) {
-                    Some(coding) => {
-                        text.extend_from_slice(coding.as_bytes())?;
-                        characters += 1;
-                        offset += length;
-                    }
-                    None => {
-                        return Ok(Page {
-                            text,
-                            characters,
-                            offset,
-                            stop: Some(Stop::Unwritten(character)),
-                        });
-                    }
-                },
-                Reading::Open => {
-                    let stop = if offset < bytes.len() {
-                        Some(Stop::Unfinished)
-                    } else {
-                        None
-                    };
-                    return Ok(Page {
-                        text,
-                        characters,
-                        offset,
-                        stop,
-                    });
-                }
-            },
-            Err(refusal) => {
-                return Ok(Page {
-                    text,
-                    characters,
-                    offset,
-                    stop: Some(Stop::Unread(refusal)),
-                });
+    let stop = 'page: loop {
+        match next_coding(source, target, &bytes[offset..]) {
+            Ok(Some((coding, length))) => {
+                text.extend_from_slice(coding.as_bytes())?;
+                characters += 1;
+                offset += length;
             }
+            Ok(None) => break None,
+            Err(stop) => break Some(stop),
         }
-    }
+    };
+    Ok(Page {
+        text,
+        characters,
+        offset,
+        stop,
+    })
 }
 
 // A page of 8-bit ISO/IEC 6937 in UTF-8, in which each of its characters has a coding.

@@ -1,99 +1,62 @@
-use Rattle.std.proofs.Common.{◌≡◌, ℕ, ◌+◌, ◌-◌, ◌<◌, ◌≤◌, List, ◌++◌, length, take, drop, Ok, Err, refl, subst, arith, length-append, length-take}
+use Rattle.std.proofs.Common.{◌≡◌, ℕ, ◌+◌, ◌-◌, ◌<◌, ◌≤◌, List, ◌++◌, length, take, drop, Ok, Err, refl, subst, arith, length-append}
+use borrow.Rule.Slice.PartMut.{put_mid}
 use Rattle.charset.specs.Meaning.{Meaning, Laws}
-use Rattle.charset.specs.Sets.{set_of}
 use Rattle.conversion.specs.declared.Step.{Step}
-use Rattle.conversion.specs.declared.Step.TheVariants.{Written}
-use Rattle.conversion.specs.Fronts.{front_bytes}
+use Rattle.conversion.specs.declared.Step.TheVariants.{Written, Paused}
+use Rattle.conversion.specs.declared.Fault.{Fault}
+use Rattle.conversion.specs.declared.Pause.{Pause}
 use Rattle.conversion.specs.Steps.{Steps}
+use Rattle.conversion.specs.Runs.{Runs}
 use Rattle.conversion.proofs.Turns.{Far, found_size, far_more, far_ends}
-use Rattle.conversion.proofs.convert.Given.{Over}
 use Rattle.conversion.proofs.convert.Goals as goal
-
--- the meanings of the two sets
-abbrev of_source : (g : Over) → g.row.S.Denot → Meaning
-of_source g x = set_of g.S.CharacterSet x
-
-abbrev of_target : (g : Over) → g.row.T.Denot → Meaning
-of_target g x = set_of g.T.CharacterSet x
 
 -- the step as its pattern names it
 step_as : (S T : Meaning) (rest out last : List ℕ) {x y : Step} → x ≡ y → Steps S T rest out last (Ok x) → Steps S T rest out last (Ok y)
 step_as S T rest out last e h = subst (λ z. Steps S T rest out last (Ok z)) e h
 
--- how far a character goes
-step_size : (S T : Meaning) → Laws S → (held sector out o last part : List ℕ) (count at put n k : ℕ) → Far S T (held ++ sector) out o count at put → Steps S T (drop at (held ++ sector)) part last (Ok (Written n k))
-    → (0 < n) × (at + n ≤ length held + length sector)
-step_size S T l held sector out o last part count at put n k far s =
-    let h = found_size S T l (held ++ sector) out o count at put far s.0 n s.2 in
-    (h.0, omega (arith, h.1, length-append held sector))
+module _ {S T : Meaning} (l : Laws S) (held sector out o last : List ℕ) {count at put : ℕ} (far : Far S T (held ++ sector) out o count at put) where
+  abbrev part : List ℕ
+  part = take (length o - put) (drop put o)
+
+  -- how far a character that is written goes
+  size : (n k : ℕ) {x : Step} → x ≡ Written n k → Steps S T (drop at (held ++ sector)) part last (Ok x) → (0 < n) × (at + n ≤ length held + length sector)
+  size n k e s =
+      let w = step_as S T _ _ _ e s in
+      let h = found_size S T l (held ++ sector) out o count at put far w.0 n w.2 in
+      (h.0, omega (arith, h.1, length-append held sector))
+
+  more : (n k : ℕ) {x : Step} → x ≡ Written n k → Steps S T (drop at (held ++ sector)) part last (Ok x) → Far S T (held ++ sector) out (put_mid put (length o - put) o last) (count + 1) (at + n) (put + k)
+  more n k e s = far_more S T l (held ++ sector) out o count at put far _ last n k (step_as S T _ _ _ e s) refl
+
+  ends : (p : Pause) {x : Step} → x ≡ Paused p → Steps S T (drop at (held ++ sector)) part last (Ok x) → Runs S T (held ++ sector) out (put_mid put (length o - put) o last) (record { characters = count; read = at; written = put; end = Ok p })
+  ends p e s = let w = step_as S T _ _ _ e s in far_ends S T l (held ++ sector) out o count at put far (Ok p) _ last w.0 w.1 refl
+
+  faults : (f : Fault) → Steps S T (drop at (held ++ sector)) part last (Err f) → Runs S T (held ++ sector) out (put_mid put (length o - put) o last) (record { characters = count; read = at; written = put; end = Err f })
+  faults f s = far_ends S T l (held ++ sector) out o count at put far (Err f) _ last s.0 s.1 refl
 
 pub overflow_add-characters : goal.overflow_add-characters
 overflow_add-characters g c =
-    let S = of_source g c.args.source.now in
-    let T = of_target g c.args.target.now in
-    let l = g.met.S.CharacterSet.lawful c.args.source.now in
-    let held = front_bytes c.args.held in
-    let sector = c.args.sector.now in
-    let part = take (length c.run.output - c.run.written) (drop c.run.written c.run.output) in
-    let w = step_as S T (drop c.run.read (held ++ sector)) part c.convert_at.new.output c.in-Written.is c.in-Ok.ensures in
-    let z = step_size S T l held sector c.args.output.now c.run.output c.convert_at.new.output part c.run.characters c.run.read c.run.written c.in-Written.more c.in-Written.put c.run.invariant w in
-    let few = length-take c.args.held.len c.args.held.bytes in
-    omega (arith, z.0, z.1, few, c.args.held.sized, c.run.invariant.few)
+    let h = size (g.met.S.CharacterSet.lawful c.args.source.now) c.args.held c.args.sector.now c.args.output.now c.run.output c.convert_at.new.output c.run.invariant _ _ c.in-Ok-Written.field-0-is c.in-Ok-Written.ensures in
+    omega (arith, h.0, h.1, c.len.ensures.value, c.len.ensures.few, c.run.invariant.few)
 
 pub overflow_add-read : goal.overflow_add-read
 overflow_add-read g c =
-    let S = of_source g c.args.source.now in
-    let T = of_target g c.args.target.now in
-    let l = g.met.S.CharacterSet.lawful c.args.source.now in
-    let held = front_bytes c.args.held in
-    let sector = c.args.sector.now in
-    let part = take (length c.run.output - c.run.written) (drop c.run.written c.run.output) in
-    let w = step_as S T (drop c.run.read (held ++ sector)) part c.convert_at.new.output c.in-Written.is c.in-Ok.ensures in
-    let z = step_size S T l held sector c.args.output.now c.run.output c.convert_at.new.output part c.run.characters c.run.read c.run.written c.in-Written.more c.in-Written.put c.run.invariant w in
-    let few = length-take c.args.held.len c.args.held.bytes in
-    omega (arith, z.0, z.1, few, c.args.held.sized)
+    let h = size (g.met.S.CharacterSet.lawful c.args.source.now) c.args.held c.args.sector.now c.args.output.now c.run.output c.convert_at.new.output c.run.invariant _ _ c.in-Ok-Written.field-0-is c.in-Ok-Written.ensures in
+    omega (arith, h.0, h.1, c.len.ensures.value, c.len.ensures.few)
 
 pub run-smaller : goal.run-smaller
 run-smaller g c =
-    let S = of_source g c.args.source.now in
-    let T = of_target g c.args.target.now in
-    let l = g.met.S.CharacterSet.lawful c.args.source.now in
-    let held = front_bytes c.args.held in
-    let sector = c.args.sector.now in
-    let part = take (length c.run.output - c.run.written) (drop c.run.written c.run.output) in
-    let w = step_as S T (drop c.run.read (held ++ sector)) part c.convert_at.new.output c.in-Written.is c.in-Ok.ensures in
-    let z = step_size S T l held sector c.args.output.now c.run.output c.convert_at.new.output part c.run.characters c.run.read c.run.written c.in-Written.more c.in-Written.put c.run.invariant w in
-    omega (arith, z.0, z.1, length-append held sector)
+    let h = size (g.met.S.CharacterSet.lawful c.args.source.now) c.args.held c.args.sector.now c.args.output.now c.run.output c.convert_at.new.output c.run.invariant _ _ c.in-Ok-Written.field-0-is c.in-Ok-Written.ensures in
+    omega (arith, h.0, h.1, length-append c.args.held c.args.sector.now)
 
 pub run-preserved : goal.run-preserved
 run-preserved g c =
-    let S = of_source g c.args.source.now in
-    let T = of_target g c.args.target.now in
-    let l = g.met.S.CharacterSet.lawful c.args.source.now in
-    let held = front_bytes c.args.held in
-    let sector = c.args.sector.now in
-    let part = take (length c.run.output - c.run.written) (drop c.run.written c.run.output) in
-    let w = step_as S T (drop c.run.read (held ++ sector)) part c.convert_at.new.output c.in-Written.is c.in-Ok.ensures in
-    far_more S T l (held ++ sector) c.args.output.now c.run.output c.run.characters c.run.read c.run.written c.run.invariant _ c.convert_at.new.output c.in-Written.more c.in-Written.put w refl
+    more (g.met.S.CharacterSet.lawful c.args.source.now) c.args.held c.args.sector.now c.args.output.now c.run.output c.convert_at.new.output c.run.invariant _ _ c.in-Ok-Written.field-0-is c.in-Ok-Written.ensures
 
-pub returns-in-Paused : goal.returns-in-Paused
-returns-in-Paused g c =
-    let S = of_source g c.args.source.now in
-    let T = of_target g c.args.target.now in
-    let l = g.met.S.CharacterSet.lawful c.args.source.now in
-    let held = front_bytes c.args.held in
-    let sector = c.args.sector.now in
-    let part = take (length c.run.output - c.run.written) (drop c.run.written c.run.output) in
-    let w = step_as S T (drop c.run.read (held ++ sector)) part c.convert_at.new.output c.in-Paused.is c.in-Ok.ensures in
-    far_ends S T l (held ++ sector) c.args.output.now c.run.output c.run.characters c.run.read c.run.written c.run.invariant (Ok c.in-Paused.pause) _ c.convert_at.new.output w.0 w.1 refl
+pub returns-in-Ok-Paused : goal.returns-in-Ok-Paused
+returns-in-Ok-Paused g c =
+    ends (g.met.S.CharacterSet.lawful c.args.source.now) c.args.held c.args.sector.now c.args.output.now c.run.output c.convert_at.new.output c.run.invariant _ c.in-Ok-Paused.field-0-is c.in-Ok-Paused.ensures
 
 pub returns-in-Err : goal.returns-in-Err
 returns-in-Err g c =
-    let S = of_source g c.args.source.now in
-    let T = of_target g c.args.target.now in
-    let l = g.met.S.CharacterSet.lawful c.args.source.now in
-    let held = front_bytes c.args.held in
-    let sector = c.args.sector.now in
-    let part = take (length c.run.output - c.run.written) (drop c.run.written c.run.output) in
-    let w = c.in-Err.ensures in
-    far_ends S T l (held ++ sector) c.args.output.now c.run.output c.run.characters c.run.read c.run.written c.run.invariant (Err c.in-Err.fault) _ c.convert_at.new.output w.0 w.1 refl
+    faults (g.met.S.CharacterSet.lawful c.args.source.now) c.args.held c.args.sector.now c.args.output.now c.run.output c.convert_at.new.output c.run.invariant _ c.in-Err.ensures

@@ -1,6 +1,5 @@
 use Rattle.std.proofs.Common.{◌-◌, ◌++◌, length}
 use Rattle.charset.specs.Sets.{set_of}
-use Rattle.conversion.specs.Fronts.{front_bytes}
 use Rattle.conversion.proofs.Turns.{Far}
 use Rattle.conversion.proofs.convert.Given as goal
 
@@ -8,7 +7,7 @@ abbrev pub invariant-run : goal.invariant-run
 invariant-run g l =
     Far (set_of g.S.CharacterSet l.source)
     (set_of g.T.CharacterSet l.target)
-    (front_bytes l.held ++ l.sector) l.initial.output l.output l.characters l.read l.written
+    (l.held ++ l.sector) l.initial.output l.output l.characters l.read l.written
 
 abbrev pub decreases-run : goal.decreases-run
-decreases-run g l = length (front_bytes l.held ++ l.sector) - l.read
+decreases-run g l = length (l.held ++ l.sector) - l.read

@@ -1,12 +1,12 @@
 use Rattle.std.proofs.Common.{◌≡◌, ℕ, ◌≤◌, List, [], ◌∷◌, ◌++◌, length, vec_items, Option, refl, ◌∙◌, append_assoc, arith, rules}
 use Rattle.sets.specs.Iso6937.{iso6937}
 use Rattle.sets.specs.Utf8.{utf8}
-use Rattle.page.specs.declared.Stop.{Stop}
+use Rattle.conversion.specs.declared.Fault.{Fault}
 use Rattle.page.specs.Report.{line_of, Reports}
-use Rattle.page.specs.Transcribed.{TheTranscript}
+use Rattle.conversion.specs.Transcribed.{TheTranscript}
 use Rattle.page.proofs.report.Goals as goal
 
-below : (input text line a b out : List ℕ) (characters offset : ℕ) (stop : Option Stop) → length input ≤ 65536 → TheTranscript iso6937 utf8 input text characters offset stop
+below : (input text line a b out : List ℕ) (characters offset : ℕ) (stop : Option Fault) → length input ≤ 65536 → TheTranscript iso6937 utf8 input text characters offset stop
     → line ≡ line_of characters offset stop → a ≡ text ++ 0x0a ∷ [] → b ≡ a ++ line → out ≡ b ++ 0x0a ∷ [] → Reports input out
 below input text line a b out characters offset stop short t l e f g = (
   λ long. absurd (omega arith),

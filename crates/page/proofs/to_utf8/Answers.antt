@@ -5,14 +5,14 @@ use Rattle.sets.specs.Iso6937Laws.{low_character}
 use Rattle.sets.specs.Utf8Laws.{low_written}
 use Rattle.sets.specs.Tables.{no_none}
 use Rattle.page.specs.declared.Page.{Page}
-use Rattle.page.specs.declared.Stop.{Stop}
-use Rattle.page.specs.declared.Stop.TheVariants.{Unwritten}
+use Rattle.conversion.specs.declared.Fault.{Fault}
+use Rattle.conversion.specs.declared.Fault.TheVariants.{Unwritten}
 use Rattle.page.specs.Stops.{AlwaysWritten}
-use Rattle.page.specs.Transcribed.{Ends, TheTranscript}
-use Rattle.page.proofs.Shown.{worked_examples}
+use Rattle.conversion.specs.Transcribed.{Ends, TheTranscript}
+use Rattle.page_stacks.proofs.Shown.{worked_examples}
 use Rattle.page.proofs.to_utf8.Goals as goal
 
-ends_written : (rest : List ℕ) (stop : Option Stop) → Ends iso6937 utf8 rest stop → AlwaysWritten stop
+ends_written : (rest : List ℕ) (stop : Option Fault) → Ends iso6937 utf8 rest stop → AlwaysWritten stop
 ends_written rest stop h c e =
     let k : Ends iso6937 utf8 rest (Some (Unwritten c)) = subst (Ends iso6937 utf8 rest) e h in
     no_none (sym k.2 ∙ (low_written c (low_character (take k.0 rest) c k.1.1)).1)

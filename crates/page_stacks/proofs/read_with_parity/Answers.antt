@@ -2,8 +2,8 @@ use Rattle.std.proofs.Common.{◌≡◌, Bool, List, ap, ◌∙◌, subst}
 use Rattle.charset.specs.Decoding.{ReadByLaws}
 use Rattle.sets.specs.Iso6937.{iso6937}
 use Rattle.layers.specs.Layers.{parity, shift, controls}
-use Rattle.page.specs.PageControls.{page_controls}
-use Rattle.page.proofs.stacks.read_with_parity.Goals as goal
+use Rattle.page_stacks.specs.PageControls.{page_controls}
+use Rattle.page_stacks.proofs.read_with_parity.Goals as goal
 
 pub returns : goal.returns
 returns c =

@@ -13,9 +13,9 @@ use Rattle.sets.specs.Iso6937Laws.{iso6937_laws}
 use Rattle.sets.specs.Utf8Laws.{utf8_laws}
 use Rattle.layers.specs.Depth.{own, up}
 use Rattle.layers.specs.LayersKeep.{shift_laws, parity_laws}
-use Rattle.page.specs.Examples.{WorkedExamples}
+use Rattle.page_stacks.specs.Examples.{WorkedExamples}
 
-by_reading : {m : Meaning} → Laws m → (s : List ℕ) (r : Answer) → reading m s ≡ r → Reads m s r
+pub by_reading : {m : Meaning} → Laws m → (s : List ℕ) (r : Answer) → reading m s ≡ r → Reads m s r
 by_reading l s r e = rw (← e) (reading_reads l s)
 
 pub worked_examples : WorkedExamples

@@ -1,9 +1,12 @@
-// Stacks of layers. That each is a character set follows from its type alone.
-ghost use Rattle.charset.specs.Meaning.{meaning};
+// Stacks of layers on a page, and the worked examples of sets and layers. That each stack is a character set follows from
+// its type alone.
+#![tactic(auto)]
+
+ghost use Rattle.charset.specs.Sets.{set_of};
 ghost use Rattle.charset.specs.Decoding.{ReadByLaws};
 ghost use Rattle.sets.specs.Iso6937.{iso6937};
 ghost use Rattle.layers.specs.Layers.{parity, shift, controls};
-ghost use Rattle.page.specs.PageControls.{page_controls};
+ghost use Rattle.page_stacks.specs.PageControls.{page_controls};
 
 use charset::{CharacterSet, Reading, SetRefusal, read_front};
 use layers::{with_controls, with_parity, with_shift};
@@ -11,7 +14,7 @@ use sets::Iso6937;
 
 // The controls of a page: 09, 0A, 0C and 0D.
 #[rattlefmt::skip]
-const PAGE_CONTROLS: [bool; 32] = [
+pub const PAGE_CONTROLS: [bool; 32] = [
     false, false, false, false, false, false, false, false, false, true, true, false, true, true, false, false,
     false, false, false, false, false, false, false, false, false, false, false, false, false, false, false, false,
 ];
@@ -30,7 +33,7 @@ pub fn read_three_deep<S: CharacterSet + Drop>(
     below: S,
     bytes: &[u8],
 ) -> Result<Reading, SetRefusal>
-    ensures { ReadByLaws (parity (shift (controls chosen (meaning (S.CharacterSet.codings below) (S.CharacterSet.openings below) (S.CharacterSet.causes below))))) bytes.now result }
+    ensures { ReadByLaws (parity (shift (controls chosen (set_of S.CharacterSet below)))) bytes.now result }
 {
     let stack = with_parity(with_shift(with_controls(chosen, below)));
     read_front(&stack, bytes)

@@ -1,0 +1,2 @@
+pub mod PageControls
+pub mod Examples
