@@ -3,13 +3,13 @@
 
 ghost use Rattle.std.specs.Prelude.{◌≡◌};
 ghost use Rattle.answers.specs.declared.Refusal.TheVariants.{Faulted};
-ghost use Rattle.answers.specs.Told.{alone, with_done, fault_number, with_fault, told};
+ghost use Rattle.answers.specs.Told.{alone, fault_number, with_fault, told};
 
 use charset::SetRefusal;
 use conversion::Fault;
 
 // The sector bytes that an offer took, and the output bytes that it wrote.
-#[derive(Clone, Copy, PartialEq, Eq, Debug)]
+#[derive(Clone, Copy, PartialEq, Eq, Debug, Default)]
 pub struct Done {
     pub taken: usize,
     pub written: usize,
@@ -55,9 +55,9 @@ impl From<FaultAt> for Refusal {
     }
 }
 
-// A refusal by its number, with the values that come with it; those that do not are 0. `standing` is the number of a fault that
+// A refusal by its number, with the values that come with it, as the table of refusals has them; those that do not are 0. `standing` is the number of a fault that
 // stood already.
-#[derive(Clone, Copy, PartialEq, Eq, Debug)]
+#[derive(Clone, Copy, PartialEq, Eq, Debug, Default)]
 pub struct Told {
     pub number: u8,
     pub standing: u8,
@@ -78,10 +78,18 @@ impl Refusal {
             Refusal::SectorTooLong => alone(1),
             Refusal::OutputTooLong => alone(2),
             Refusal::SourceTooLong => alone(3),
-            Refusal::Standing(standing) => with_fault(4, fault_number(standing.fault), standing),
+            Refusal::Standing(at) => Told {
+                number: 4,
+                standing: fault_number(at.fault),
+                ..Told::from(at)
+            },
             Refusal::AlreadyClosed => alone(5),
-            Refusal::Faulted(standing) => with_fault(fault_number(standing.fault), 0, standing),
-            Refusal::Full(done) => with_done(8, done),
+            Refusal::Faulted(at) => Told::from(at),
+            Refusal::Full(Done { taken, written }) => Told {
+                taken,
+                written,
+                ..alone(8)
+            },
         }
     }
 }
@@ -89,31 +97,42 @@ impl Refusal {
 fn alone(number: u8) -> Told
     ensures { result ≡ alone number }
 {
-    with_done(
-        number,
-        Done {
-            taken: 0,
-            written: 0,
-        },
-    )
-}
-
-fn with_done(number: u8, done: Done) -> Told
-    ensures { result ≡ with_done number done }
-{
     Told {
         number,
-        standing: 0,
-        offset: 0,
-        cause: 0,
-        depth: 0,
-        character: 0,
-        taken: done.taken,
-        written: done.written,
+        ..Told::default()
     }
 }
 
-// The number that a fault is told by.
+// A fault by its number and values.
+impl From<FaultAt> for Told {
+    ghost from_gives = { λ f r. r ≡ with_fault (fault_number f.fault) 0 f.fault f.offset f.done };
+
+    fn from(at: FaultAt) -> Told {
+        let Done { taken, written } = at.done;
+        let placed = Told {
+            offset: at.offset,
+            ..alone(fault_number(at.fault))
+        };
+        match at.fault {
+            Fault::Unread(SetRefusal { cause, depth }) => Told {
+                cause,
+                depth,
+                taken,
+                written,
+                ..placed
+            },
+            Fault::Unwritten(character) => Told {
+                character,
+                taken,
+                written,
+                ..placed
+            },
+            Fault::Unfinished => placed,
+        }
+    }
+}
+
+// The number that a fault is told by. No `From`: both types are of other crates.
 pub fn fault_number(fault: Fault) -> u8
     ensures { result ≡ fault_number fault }
 {
@@ -121,34 +140,6 @@ pub fn fault_number(fault: Fault) -> u8
         Fault::Unread(_) => 6,
         Fault::Unwritten(_) => 7,
         Fault::Unfinished => 9,
-    }
-}
-
-fn with_fault(number: u8, standing: u8, at: FaultAt) -> Told
-    ensures { result ≡ with_fault number standing at.fault at.offset at.done }
-{
-    let (cause, depth, character, done) = match at.fault {
-        Fault::Unread(refusal) => (refusal.cause, refusal.depth, 0, at.done),
-        Fault::Unwritten(character) => (0, 0, character, at.done),
-        Fault::Unfinished => (
-            0,
-            0,
-            0,
-            Done {
-                taken: 0,
-                written: 0,
-            },
-        ),
-    };
-    Told {
-        number,
-        standing,
-        offset: at.offset,
-        cause,
-        depth,
-        character,
-        taken: done.taken,
-        written: done.written,
     }
 }
 

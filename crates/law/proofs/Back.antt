@@ -2,6 +2,7 @@
 use Rattle.std.proofs.Common.{◌≡◌, ℕ, ◌+◌, ◌≤◌, Bool, true, false, cond, ltb, List, [], ◌∷◌, ◌++◌, length, take, drop, Some, None, Ok, Err, sym, refl, ap, ◌∙◌, subst, inl, inr, append_assoc, append-nil, arith, length-append, take-append-drop, length-take}
 use lib.Seq.{take-append_seam, take-append-le}
 use Rattle.std.proofs.lemmas.Bool.{both_ways, cases_lt, ltb-true}
+use Rattle.std.proofs.lemmas.List.{nil_from_length}
 use Rattle.charset.specs.declared.SetRefusal.{SetRefusal}
 use Rattle.charset.specs.declared.Reading.TheVariants as reading
 use Rattle.charset.specs.Meaning.{Meaning, Laws}
@@ -12,10 +13,9 @@ use Rattle.charset.proofs.Spelling.{spells_append, spells_split, spells_one, fro
 use Rattle.conversion.specs.declared.Fault.TheVariants.{Unread, Unwritten, Unfinished}
 use Rattle.conversion.specs.declared.Pause.TheVariants as pause
 use Rattle.conversion.specs.Stops.{End, Stops}
-use Rattle.answers.specs.declared.State.{State}
-use Rattle.answers.specs.declared.State.TheVariants.{Open, Faulted, Closed}
+use Rattle.answers.specs.declared.State.TheVariants.{Open}
 use Rattle.answers.specs.declared.Refusal.TheVariants as refusal
-use Rattle.transcript.specs.Calls.{Snapshot, OfferAnswer, CloseAnswer, limits, refused, takes, answers, state_after, offset_of, OfferedIf, ClosedOn}
+use Rattle.transcript.specs.Calls.{Snapshot, OfferAnswer, limits, refused, takes, answers, state_after, offset_of, OfferedIf}
 use Rattle.transcript.specs.Uses.{Event, start, offer, close, status, Step, Use, made, call, taken_in, written_in}
 use Rattle.law.specs.Law.{StandsOn, StatusTells, Feeds, Faultless, AllFaultless, GoesBack, TranscriptionLaw}
 use Rattle.law.proofs.Keeping.{stands}
@@ -26,14 +26,6 @@ use Rattle.law.proofs.Answered.{one_outcome}
 abbrev Tail : Meaning → Meaning → List ℕ → Type 0
 Tail S T s = (es e : List ℕ) × Spells S es s × Spells T es e
 
-both_empty : (a b : List ℕ) → a ++ b ≡ [] → a ≡ []
-both_empty [] b e = refl
-both_empty (x ∷ a) b e = absurd (let z : ◌≡◌ {A = ℕ} 0 1 = cc in omega arith)
-
-right_empty : (a b : List ℕ) → [] ≡ a ++ b → b ≡ []
-right_empty [] b e = sym e
-right_empty (x ∷ a) b e = absurd (let z : ◌≡◌ {A = ℕ} 0 1 = cc in omega arith)
-
 -- the end is no fault
 abbrev Harmless : End → Type 0
 Harmless (Ok p) = Unit {0}
@@ -41,14 +33,14 @@ Harmless (Err f) = ⊥
 
 module _ (S T : Meaning) (l : Laws S) where
   no_char : (es e rest more : List ℕ) (c n : ℕ) → Spells S es (rest ++ more) → Spells T es e → Reads S rest (Ok (reading.Found c n)) → T.codings.string c ≡ None → ⊥
-  no_char [] e rest more c n p q h k = omega (arith, h.0, ap length (both_empty rest more p), l.sized (take n rest) c h.1, length-take n rest)
+  no_char [] e rest more c n p q h k = omega (arith, h.0, ap length p, length-append rest more, l.sized (take n rest) c h.1, length-take n rest)
   no_char (d ∷ es) e rest more c n p q h k =
       let e' : take n rest ++ (drop n rest ++ more) ≡ p.0 ++ p.1 = sym (append_assoc (take n rest) (drop n rest) more) ∙ ap (λ t. t ++ more) (take-append-drop n rest) ∙ p.3 in
       let same = same_coding l (take n rest) p.0 (drop n rest ++ more) p.1 c d h.1 (l.written d _ p.2) e' in
       none_some {x = q.0} (sym k ∙ rw same.1 q.2)
 
   no_bad : (es rest more : List ℕ) (q : SetRefusal) → Spells S es (rest ++ more) → Reads S rest (Err q) → ⊥
-  no_bad [] rest more q p h = both_ways _ h.0.1 (rw (both_empty rest more p) l.empty_opens)
+  no_bad [] rest more q p h = let none : rest ≡ [] = nil_from_length rest (omega (arith, ap length p, length-append rest more)) in both_ways _ h.0.1 (rw none l.empty_opens)
   no_bad (d ∷ es) rest more q p h =
       let code = l.written d _ p.2 in
       elim (cases_lt (length rest) (length p.0)) [
@@ -72,7 +64,7 @@ module _ (S T : Meaning) (l : Laws S) where
   tail : (cs ds a w v p : List ℕ) → Spells S cs w → Spells T cs v → Spells S ds a → w ≡ a ++ p → Tail S T p
   tail cs ds a w v p h k g e = elim (fronts l ds cs a w p [] g h (sym e ∙ sym (append-nil w))) [
     | inl f ↦ (f.0, (spells_split T ds f.0 v (rw (← f.2) k)).1, rw (f.4, append-nil) f.3, (spells_split T ds f.0 v (rw (← f.2) k)).3)
-    | inr f ↦ ([], [], right_empty f.1 p f.4, refl)
+    | inr f ↦ ([], [], nil_from_length p (omega (arith, ap length f.4, length-append f.1 p)), refl)
   ]
 
   module _ (cs w v : List ℕ) (h : Spells S cs w) (k : Spells T cs v) (small : length w ≤ 4294967296) where
@@ -124,12 +116,6 @@ module _ (S T : Meaning) (l : Laws S) where
         let one = st.only cs [] (record { spelt = w; spells = h; parts = e ∙ sym (append-nil w); opens = l.empty_opens }) in
         (sym one.1, spells_one T cs (written_in again) v (rw one.0 st.writes) k)
 
-accepting : (s t : Snapshot) (r : CloseAnswer) (p : State) (held : List ℕ) → p ≡ Open → held ≡ [] → ClosedOn p held s r t → r ≡ Ok tt
-accepting s t r Open [] e f c = c.0
-accepting s t r Open (b ∷ bs) e f c = absurd (let z : ◌≡◌ {A = ℕ} 0 1 = cc in omega arith)
-accepting s t r (Faulted x) held e f c = absurd (let z : ◌≡◌ {A = ℕ} 0 1 = cc in omega arith)
-accepting s t r Closed held e f c = absurd (let z : ◌≡◌ {A = ℕ} 0 1 = cc in omega arith)
-
 pub goes_back : (S T : Meaning) → Laws S → Laws T → GoesBack S T
 goes_back S T l k past s t run p close-ok small again u run' f =
     let st = stands S T l run in
@@ -139,7 +125,7 @@ goes_back S T l k past s t run p close-ok small again u run' f =
       g.1,
       λ e.
           let all = all_taken T S k st.chars (written_in past) m.spelt st.writes m.spells small run' e in
-          (λ r v c. accepting u v r u.state u.held g.0 all.0 c, all.1 ∙ sym (m.parts ∙ ap (λ z. m.spelt ++ z) empty ∙ append-nil m.spelt)),
+          (λ r v c. (closes_exactly T S k again u v r run' g.0 c).1 all.0, all.1 ∙ sym (m.parts ∙ ap (λ z. m.spelt ++ z) empty ∙ append-nil m.spelt)),
     )
 
 pub status_tells : (S T : Meaning) → Laws S → StatusTells S T

@@ -1,5 +1,5 @@
 -- An offer tells of an end exactly when characters that fit lead to it, and a closing is accepted exactly when nothing is held. Assumes nothing.
-use Rattle.std.proofs.Common.{◌≡◌, ℕ, List, [], ◌∷◌, ◌++◌, length, take, None, Ok, Err, refl, ap, ◌∙◌, subst, arith}
+use Rattle.std.proofs.Common.{◌≡◌, ℕ, List, [], ◌∷◌, ◌++◌, length, take, None, Ok, Err, refl, ap, ◌∙◌, subst}
 use lib.Seq.{take-append_seam}
 use Rattle.charset.specs.Meaning.{Meaning, Laws}
 use Rattle.conversion.specs.declared.Fault.TheVariants.{Unread, Unwritten, Unfinished}
@@ -14,26 +14,26 @@ use Rattle.law.proofs.Keeping.{answer_took}
 
 -- the end that a number tells of
 at_seven : (k : End) (o n w : ℕ) → (told_of (answers k o n w)).number ≡ 7 → k ≡ Err (Unwritten (told_of (answers k o n w)).character)
-at_seven (Ok pause.Open) o n w e = absurd (omega arith)
-at_seven (Ok pause.Full) o n w e = absurd (omega arith)
-at_seven (Err (Unread q)) o n w e = absurd (omega arith)
+at_seven (Ok pause.Open) o n w e = cc
+at_seven (Ok pause.Full) o n w e = cc
+at_seven (Err (Unread q)) o n w e = cc
 at_seven (Err (Unwritten c)) o n w e = refl
-at_seven (Err Unfinished) o n w e = absurd (omega arith)
+at_seven (Err Unfinished) o n w e = cc
 
 at_six : (k : End) (o n w : ℕ) → (told_of (answers k o n w)).number ≡ 6
     → k ≡ Err (Unread (record { cause = (told_of (answers k o n w)).cause; depth = (told_of (answers k o n w)).depth }))
-at_six (Ok pause.Open) o n w e = absurd (omega arith)
-at_six (Ok pause.Full) o n w e = absurd (omega arith)
+at_six (Ok pause.Open) o n w e = cc
+at_six (Ok pause.Full) o n w e = cc
 at_six (Err (Unread q)) o n w e = refl
-at_six (Err (Unwritten c)) o n w e = absurd (omega arith)
-at_six (Err Unfinished) o n w e = absurd (omega arith)
+at_six (Err (Unwritten c)) o n w e = cc
+at_six (Err Unfinished) o n w e = cc
 
 at_eight : (k : End) (o n w : ℕ) → (told_of (answers k o n w)).number ≡ 8 → k ≡ Ok pause.Full
-at_eight (Ok pause.Open) o n w e = absurd (omega arith)
+at_eight (Ok pause.Open) o n w e = cc
 at_eight (Ok pause.Full) o n w e = refl
-at_eight (Err (Unread q)) o n w e = absurd (omega arith)
-at_eight (Err (Unwritten c)) o n w e = absurd (omega arith)
-at_eight (Err Unfinished) o n w e = absurd (omega arith)
+at_eight (Err (Unread q)) o n w e = cc
+at_eight (Err (Unwritten c)) o n w e = cc
+at_eight (Err Unfinished) o n w e = cc
 
 module _ (S T : Meaning) (l : Laws S) where
   takes_all : (k : End) (o n w used room : ℕ) (held sector source rest : List ℕ) → Stops S T rest used room k
@@ -76,6 +76,6 @@ module _ (S T : Meaning) (l : Laws S) where
     where
       go : (q : State) (h : List ℕ) → s.held ≡ h → q ≡ Open → ClosedOn q h s r t → (r ≡ Ok tt → s.held ≡ []) × (s.held ≡ [] → r ≡ Ok tt)
       go Open [] e q c = (λ _. e, λ _. c.0)
-      go Open (b ∷ bs) e q c = (λ k. absurd (let x = c.0 in let z : ◌≡◌ {A = ℕ} 0 1 = cc in omega arith), λ k. absurd (let z : ◌≡◌ {A = ℕ} 0 1 = cc in omega arith))
-      go (Faulted f) h e q c = absurd (let z : ◌≡◌ {A = ℕ} 0 1 = cc in omega arith)
-      go Closed h e q c = absurd (let z : ◌≡◌ {A = ℕ} 0 1 = cc in omega arith)
+      go Open (b ∷ bs) e q c = (λ k. let x = c.0 in cc, λ k. cc)
+      go (Faulted f) h e q c = cc
+      go Closed h e q c = cc

@@ -1,17 +1,17 @@
 -- After every call the bytes taken and written are the same characters. Assumes nothing.
-use Rattle.std.proofs.Common.{◌≡◌, ℕ, ◌+◌, ◌-◌, ◌<◌, ◌≤◌, Bool, true, false, cond, ltb, List, [], ◌∷◌, ◌++◌, length, take, Some, None, Ok, Err, Option, sym, refl, ap, ◌∙◌, append_assoc, append-nil, arith, length-append, length-take-le}
+use Rattle.std.proofs.Common.{◌≡◌, ℕ, ◌+◌, ◌-◌, ◌<◌, ◌≤◌, List, [], ◌∷◌, ◌++◌, length, take, Some, None, Ok, Err, Option, sym, refl, ap, ◌∙◌, append_assoc, append-nil, arith, length-append, length-take-le}
 use lib.Seq.{take-append_seam, take-append-add, take-length}
+use Rattle.std.proofs.lemmas.Bool.Decides.{nat_tests}
 use Rattle.charset.specs.Meaning.{Meaning, Opens, Laws}
 use Rattle.charset.specs.Decoding.{Spells, Decodes}
-use Rattle.charset.proofs.FrontLemmas.{none_some, opening_passed}
+use Rattle.charset.proofs.FrontLemmas.{opening_passed}
 use Rattle.charset.proofs.Spelling.{spells_append, decodes_once}
 use Rattle.conversion.specs.declared.Pause.TheVariants as pause
 use Rattle.conversion.specs.Stops.{End, Leads, Stops}
 use Rattle.answers.specs.declared.State.{State}
 use Rattle.answers.specs.declared.State.TheVariants.{Open, Faulted, Closed}
 use Rattle.answers.specs.declared.Refusal.{Refusal}
-use Rattle.answers.specs.declared.Refusal.TheVariants as refusal
-use Rattle.transcript.specs.Calls.{Snapshot, fresh, with_state, OfferAnswer, CloseAnswer, limits, refused, takes, unless_any, holds, answers, offset_of, state_after, OfferedIf, ClosedOn}
+use Rattle.transcript.specs.Calls.{Snapshot, fresh, with_state, OfferAnswer, CloseAnswer, refused, takes, unless_any, holds, answers, offset_of, state_after, OfferedIf, ClosedOn}
 use Rattle.transcript.specs.Uses.{Event, start, offer, close, status, Step, Use, made, call, took, wrote, taken_in, written_in}
 use Rattle.law.specs.Law.{StandsOn, Stands}
 
@@ -31,22 +31,10 @@ answer_took (Err f) o n w = (refl, refl)
 abbrev Nothing : Refusal → Type 0
 Nothing q = (took (Err q) ≡ 0) × (wrote (Err q) ≡ 0)
 
-limits_tell : (n : ℕ) (sector out : List ℕ) (q : Refusal) → limits n sector out ≡ Some q → Nothing q
-limits_tell n sector out q e = go (ltb 4096 (length sector)) (ltb 65536 (length out)) (ltb 4294967296 (n + length sector)) e
-  where
-    said : (x : Refusal) → Nothing x → Some x ≡ Some q → Nothing q
-    said x h e = let same : x ≡ q = cc in rw (← same) h
-
-    go : (a b c : Bool) → cond a (Some refusal.SectorTooLong) (cond b (Some refusal.OutputTooLong) (cond c (Some refusal.SourceTooLong) None)) ≡ Some q → Nothing q
-    go true b c e = said refusal.SectorTooLong (refl, refl) e
-    go false true c e = said refusal.OutputTooLong (refl, refl) e
-    go false false true e = said refusal.SourceTooLong (refl, refl) e
-    go false false false e = absurd (none_some e)
-
 refusal_tells : (p : State) (n : ℕ) (sector out : List ℕ) (q : Refusal) → refused p n sector out ≡ Some q → Nothing q
-refusal_tells Open n sector out q e = limits_tell n sector out q e
-refusal_tells (Faulted f) n sector out q e = let same : refusal.Standing f ≡ q = cc in rw (← same) (refl, refl)
-refusal_tells Closed n sector out q e = let same : refusal.AlreadyClosed ≡ q = cc in rw (← same) (refl, refl)
+refusal_tells Open n sector out q e = grind (arith, nat_tests)
+refusal_tells (Faulted f) n sector out q e = grind arith
+refusal_tells Closed n sector out q e = grind arith
 
 module _ (S T : Meaning) (l : Laws S) where
   abbrev stands_by : (bytes out : List ℕ) (s : Snapshot) (cs : List ℕ) → Decodes S bytes cs s.held → Spells T cs out → s.taken ≡ length bytes → s.written ≡ length out → s.characters ≡ length cs

@@ -1,15 +1,13 @@
 -- A run of characters as the work of an offer. Assumes nothing.
-use Rattle.std.proofs.Common.{◌≡◌, ℕ, ◌+◌, ◌*◌, ◌≤◌, Bool, true, false, cond, ltb, List, [], ◌∷◌, ◌++◌, length, drop, Some, None, Ok, sym, refl, ap, ◌∙◌, subst, arith, length-append}
+use Rattle.std.proofs.Common.{◌≡◌, ℕ, ◌*◌, ◌≤◌, List, [], ◌∷◌, ◌++◌, length, drop, None, Ok, sym, refl, ap, ◌∙◌, subst, arith, length-append}
 use lib.Seq.{drop-append_seam}
-use Rattle.std.proofs.lemmas.Bool.{ltb-false}
+use Rattle.std.proofs.lemmas.Bool.Decides.{nat_tests}
 use Rattle.charset.specs.Meaning.{Meaning, Laws}
 use Rattle.charset.specs.Decoding.{Spells}
-use Rattle.charset.proofs.FrontLemmas.{none_some}
 use Rattle.conversion.specs.declared.Pause.TheVariants as pause
 use Rattle.conversion.specs.declared.Run.{Run}
 use Rattle.conversion.specs.Stops.{End, Stops}
 use Rattle.conversion.specs.Runs.{Runs}
-use Rattle.answers.specs.declared.Refusal.TheVariants.{SectorTooLong, OutputTooLong, SourceTooLong}
 use Rattle.transcript.specs.Calls.{Snapshot, OfferAnswer, limits, Worked, OfferedIf}
 use Rattle.transcript.specs.Snapshots.{Possible, Settles}
 
@@ -21,16 +19,6 @@ spelt_size l (c ∷ cs) s p =
     let more = spelt_size l cs p.1 p.4 in
     let size = ap length p.3 ∙ length-append p.0 p.1 in
     (omega (arith, one.0, more.0, size), omega (arith, one.1, more.1, size))
-
--- within the limits the source does not grow too long
-pub in_limit : (taken : ℕ) (sector out : List ℕ) → limits taken sector out ≡ None → taken + length sector ≤ 4294967296
-in_limit taken sector out e = go (ltb 4096 (length sector)) (ltb 65536 (length out)) (ltb 4294967296 (taken + length sector)) refl e
-  where
-    go : (a b c : Bool) → ltb 4294967296 (taken + length sector) ≡ c → cond a (Some SectorTooLong) (cond b (Some OutputTooLong) (cond c (Some SourceTooLong) None)) ≡ None → taken + length sector ≤ 4294967296
-    go true b c f e = absurd (none_some (sym e))
-    go false true c f e = absurd (none_some (sym e))
-    go false false true f e = absurd (none_some (sym e))
-    go false false false f e = ltb-false _ _ f
 
 module _ (S T : Meaning) (l : Laws S) (k : Laws T) (s : Snapshot) (sector out after : List ℕ) (run : Run) (h : Runs S T (s.held ++ sector) out after run) where
   rest_is : drop run.read (s.held ++ sector) ≡ h.reaches.rest
@@ -51,7 +39,7 @@ module _ (S T : Meaning) (l : Laws S) (k : Laws T) (s : Snapshot) (sector out af
         none_read = λ z. r ∙ none_spelt h.chars h.source h.reaches.leads.from (sym c ∙ z);
         four_bytes_each = rw (w, c) into.1;
         opening = λ o. rw rest_is (opening_short run.end o h.reaches.rest (length h.target) (length out) h.reaches.stops);
-        limit = in_limit s.taken sector out e;
+        limit = grind (arith, nat_tests);
       }
     where
       none_spelt : (cs t : List ℕ) → Spells S cs t → length cs ≡ 0 → length t ≡ 0

@@ -2,19 +2,12 @@
 use Rattle.std.specs.Prelude.{◌≡◌, ℕ, zero, suc, ◌+◌, ◌*◌, ◌≤◌, List, [], ◌++◌, length, drop, Some, None, Ok, Err, Result}
 use Rattle.conversion.specs.declared.Pause.TheVariants as pause
 use Rattle.conversion.specs.declared.Run.{Run}
-use Rattle.conversion.specs.Fronts.{front_bytes}
-use Rattle.answers.specs.declared.Done.{Done}
-use Rattle.answers.specs.declared.State.{State}
 use Rattle.answers.specs.declared.Refusal.{Refusal}
 use Rattle.transcript.specs.declared.progress.Progress.{Progress}
 use Rattle.transcript.specs.Calls.{Snapshot, OfferAnswer, limits, takes, holds, answers, state_after, offset_of}
 
 abbrev pub snapshot : Progress → Snapshot
-snapshot k = record { state = k.state; taken = k.taken; characters = k.characters; written = k.written; held = front_bytes k.held }
-
--- so many bytes taken and written and so many characters on, in another state and holding other bytes
-abbrev pub moved : Snapshot → State → Done → ℕ → List ℕ → Snapshot
-moved s p d n held = record { state = p; taken = s.taken + d.taken; characters = s.characters + n; written = s.written + d.written; held = held }
+snapshot k = record { state = k.state; taken = k.taken; characters = k.characters; written = k.written; held = k.held }
 
 -- the held bytes stay if no character was written
 abbrev pub kept_after : ℕ → List ℕ → List ℕ

@@ -71,8 +71,8 @@ impl<S: CharacterSet, T: CharacterSet> Transcript<S, T> {
                 Ok(Answer::Started)
             }
             (_, Call::Status) => Ok(Answer::Told(self.progress.status())),
-            (State::Closed, Call::Offer { .. }) => Err(Refusal::AlreadyClosed),
-            (State::Closed, Call::Close) => Err(Refusal::AlreadyClosed),
+            (State::Closed, _) => Err(Refusal::AlreadyClosed),
+            // Two arms: in one that both calls share, the proof loses which call and which fault it is.
             (State::Faulted(fault), Call::Offer { .. }) => Err(Refusal::Standing(fault)),
             (State::Faulted(fault), Call::Close) => Err(Refusal::Standing(fault)),
             (State::Open, Call::Close) => {
@@ -80,8 +80,7 @@ impl<S: CharacterSet, T: CharacterSet> Transcript<S, T> {
                 Ok(Answer::Closed)
             }
             (State::Open, Call::Offer { sector, output }) => {
-                let done = self.feed(sector, output)?;
-                Ok(Answer::Offered(done))
+                self.feed(sector, output).map(Answer::Offered)
             }
         }
     }
@@ -91,7 +90,7 @@ impl<S: CharacterSet, T: CharacterSet> Transcript<S, T> {
         ensures sets { (self.new.source ≡ self.old.source) × (self.new.target ≡ self.old.target) }
         ensures told { Step (set_of S.CharacterSet self.old.source) (set_of T.CharacterSet self.old.target) (snapshot self.old.progress) start (snapshot self.new.progress) }
     {
-        let _ = self.call(starting());
+        let _ = self.call(Call::Start);
     }
 
     // Reads the held bytes and then the sector from the front, and writes each character behind the one before.
@@ -99,11 +98,10 @@ impl<S: CharacterSet, T: CharacterSet> Transcript<S, T> {
         ensures sets { (self.new.source ≡ self.old.source) × (self.new.target ≡ self.old.target) }
         ensures told { Step (set_of S.CharacterSet self.old.source) (set_of T.CharacterSet self.old.target) (snapshot self.old.progress) (offer sector.now output.old result output.new) (snapshot self.new.progress) }
     {
-        let answer = self.call(Call::Offer { sector, output })?;
-        match answer {
-            Answer::Offered(done) => Ok(done),
-            _ => unreachable(),
-        }
+        let Answer::Offered(done) = self.call(Call::Offer { sector, output })? else {
+            unreachable!()
+        };
+        Ok(done)
     }
 
     // Closes, unless bytes are held.
@@ -111,7 +109,7 @@ impl<S: CharacterSet, T: CharacterSet> Transcript<S, T> {
         ensures sets { (self.new.source ≡ self.old.source) × (self.new.target ≡ self.old.target) }
         ensures told { Step (set_of S.CharacterSet self.old.source) (set_of T.CharacterSet self.old.target) (snapshot self.old.progress) (close result) (snapshot self.new.progress) }
     {
-        self.call(closing())?;
+        self.call(Call::Close)?;
         Ok(())
     }
 
@@ -121,17 +119,4 @@ impl<S: CharacterSet, T: CharacterSet> Transcript<S, T> {
     {
         self.progress.status()
     }
-}
-
-// A call without buffers, made by a function of its own: the checker does not follow one that is made and passed on in place.
-fn starting<'a>() -> Call<'a>
-    ensures { result ≡ Call.Start }
-{
-    Call::Start
-}
-
-fn closing<'a>() -> Call<'a>
-    ensures { result ≡ Call.Close }
-{
-    Call::Close
 }

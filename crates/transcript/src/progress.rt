@@ -1,11 +1,9 @@
 // How far a transcript has come since it was started: its state, what it has counted, and the bytes it holds.
 ghost use Rattle.std.specs.Prelude.{◌+◌, ◌*◌, ◌≤◌, length};
-ghost use Rattle.conversion.specs.Fronts.{front_bytes};
 
-mod moves;
-
-use answers::State;
-use conversion::Front;
+use crate::{LONGEST_OUTPUT, LONGEST_SECTOR, LONGEST_SOURCE};
+use answers::{Done, FaultAt, Refusal, State, Status};
+use conversion::{Fault, Front, Pause, Run};
 
 #[derive(Clone, Copy)]
 pub struct Progress {
@@ -14,7 +12,119 @@ pub struct Progress {
     characters: u64,
     written: u64,
     pub(crate) held: Front,
-    ghost counted: { characters + length (front_bytes held) ≤ taken },
+    ghost counted: { characters + length held ≤ taken },
     ghost limited: { taken ≤ 4294967296 },
     ghost sized: { written ≤ 4 * characters },
+}
+
+impl Progress {
+    ghost use Rattle.std.specs.Prelude.{◌≡◌};
+    ghost use Rattle.answers.specs.declared.State.TheVariants.{Open};
+    ghost use Rattle.transcript.specs.Calls.{fresh, status_of, ClosedOn};
+    ghost use Rattle.transcript.specs.Snapshots.{snapshot, kept_after, Limits, Possible, Settles};
+
+    pub(crate) fn fresh() -> Progress
+        ensures { snapshot result ≡ fresh }
+    {
+        Progress {
+            state: State::Open,
+            taken: 0,
+            characters: 0,
+            written: 0,
+            held: Front::empty(),
+        }
+    }
+
+    pub(crate) fn status(&self) -> Status
+        ensures { result ≡ status_of (snapshot self.now) }
+    {
+        Status {
+            taken: self.taken,
+            characters: self.characters,
+            written: self.written,
+            held: self.held.len(),
+            state: self.state,
+        }
+    }
+
+    // Whether an offer is within the size limits.
+    pub(crate) fn within_limits(&self, sector: &[u8], output: &[u8]) -> Result<(), Refusal>
+        ensures { Limits self.now.taken sector.now output.now result }
+    {
+        if sector.len() > LONGEST_SECTOR {
+            return Err(Refusal::SectorTooLong);
+        }
+        if output.len() > LONGEST_OUTPUT {
+            return Err(Refusal::OutputTooLong);
+        }
+        if self.taken + sector.len() as u64 > LONGEST_SOURCE {
+            return Err(Refusal::SourceTooLong);
+        }
+        Ok(())
+    }
+
+    // What stays held where something stops an offer after so many characters.
+    fn kept(&self, characters: usize) -> Front
+        ensures { result ≡ kept_after characters self.now.held }
+    {
+        if characters == 0 {
+            self.held
+        } else {
+            Front::empty()
+        }
+    }
+
+    // After the characters of an offer: what it counts, what it holds, and what it answers.
+    // What a run can be depends on the held bytes and the sector, so it is asked for here.
+    pub(crate) fn settle(&mut self, run: Run, sector: &[u8]) -> Result<Done, Refusal>
+        requires { Possible (snapshot self.old) sector.now run }
+        ensures { Settles (snapshot self.old) sector.now run result (snapshot self.new) }
+    {
+        let held = self.held.len();
+        let offset = self.taken - held as u64 + run.read as u64;
+        let (taken, rest) = match run.end {
+            Ok(Pause::Open) => (sector.len(), self.held.window(sector, run.read)),
+            _ => (run.read.saturating_sub(held), self.kept(run.characters)),
+        };
+        let done = Done {
+            taken,
+            written: run.written,
+        };
+        self.taken += done.taken as u64;
+        self.characters += run.characters as u64;
+        self.written += done.written as u64;
+        self.held = rest;
+        self.state = State::Open;
+        match run.end {
+            Ok(Pause::Open) => Ok(done),
+            Ok(Pause::Full) => Err(Refusal::Full(done)),
+            Err(fault) => {
+                let standing = FaultAt {
+                    fault,
+                    offset,
+                    done,
+                };
+                self.state = State::Faulted(standing);
+                Err(standing.into())
+            }
+        }
+    }
+
+    // Closes an open transcript, unless it holds bytes: then it is faulted.
+    pub(crate) fn finish(&mut self) -> Result<(), Refusal>
+        ensures { ClosedOn Open self.old.held (snapshot self.old) result (snapshot self.new) }
+    {
+        let held = self.held.len();
+        if held == 0 {
+            self.state = State::Closed;
+            return Ok(());
+        }
+        let unfinished = FaultAt {
+            fault: Fault::Unfinished,
+            offset: self.taken - held as u64,
+            done: Done::default(),
+        };
+        self.state = State::Faulted(unfinished);
+        Err(unfinished.into())
+    }
 }

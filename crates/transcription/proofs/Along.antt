@@ -1,7 +1,7 @@
 -- Offers of a text, sector after sector, and what they come to. Assumes nothing.
-use Rattle.std.proofs.Common.{◌≡◌, ℕ, ◌+◌, ◌-◌, ◌≤◌, List, [], ◌∷◌, ◌++◌, length, take, drop, Some, None, Ok, Err, sym, refl, ap, ◌∙◌, arith, length-append, length-drop, take-append-drop, length-take-le}
+use Rattle.std.proofs.Common.{◌≡◌, ℕ, ◌+◌, ◌≤◌, List, [], ◌∷◌, ◌++◌, length, take, Some, None, Ok, Err, sym, refl, ap, ◌∙◌, arith, length-append}
 use lib.Seq.{take-append_seam, take-append-le}
-use Rattle.std.proofs.lemmas.Bool.{le-ltb}
+use Rattle.std.proofs.lemmas.Bool.Decides.{nat_tests}
 use Rattle.charset.specs.declared.Reading.TheVariants.{Found}
 use Rattle.charset.specs.Meaning.{Meaning, Unreadable, Laws}
 use Rattle.charset.specs.Answers.{Reads}
@@ -13,33 +13,25 @@ use Rattle.answers.specs.declared.State.TheVariants.{Open}
 use Rattle.transcript.specs.Calls.{Snapshot, fresh, limits}
 use Rattle.transcript.specs.Uses.{Event, start, Use, made, taken_in, written_in}
 use Rattle.law.specs.Law.{Feeds}
-use Rattle.transcription.specs.Transcribed.{Ends}
+use Rattle.conversion.specs.Transcribed.{Ends}
 use Rattle.transcription.specs.Carried.{AllTakenOrFaulted}
 
--- the bytes before a place are offered and taken, and their text is written
-pub record Along (S T : Meaning) (bytes text : List ℕ) (at : ℕ) (s : Snapshot) : Type 0 where
+-- the bytes before the rest are offered and taken, and their text is written
+pub record Along (S T : Meaning) (bytes text rest : List ℕ) (s : Snapshot) : Type 0 where
   pub offers : List Event
   pub used : Use S T offers s
   pub fed : Feeds bytes offers
   pub answered : AllTakenOrFaulted offers
   pub going : s.state ≡ Open
-  pub inside : at ≤ length bytes
-  pub taken_is : taken_in offers ≡ take at bytes
+  pub parts : bytes ≡ taken_in offers ++ rest
   pub text_is : text ≡ written_in offers
 
-pub along_none : (S T : Meaning) (bytes : List ℕ) (s : Snapshot) → s ≡ fresh → Along S T bytes [] 0 s
-along_none S T bytes s e = rw e (record { offers = start ∷ []; used = made; fed = refl; answered = tt; going = refl; inside = omega arith; taken_is = refl; text_is = refl })
+pub along_none : (S T : Meaning) (bytes : List ℕ) (s : Snapshot) → s ≡ fresh → Along S T bytes [] bytes s
+along_none S T bytes s e = rw e (record { offers = start ∷ []; used = made; fed = refl; answered = tt; going = refl; parts = refl; text_is = refl })
 
 -- within the limits
 pub within : (taken : ℕ) (sector out : List ℕ) → length sector ≤ 4096 → length out ≤ 65536 → taken + length sector ≤ 4294967296 → limits taken sector out ≡ None
-within taken sector out a b c = rw (le-ltb 4096 (length sector) a, le-ltb 65536 (length out) b, le-ltb 4294967296 (taken + length sector) c)
-
--- the next sector
-pub sector_is : (bytes : List ℕ) (at end : ℕ) → at ≤ end → end ≤ length bytes → (length (take (end - at) (drop at bytes)) ≡ end - at) × (bytes ≡ take at bytes ++ (take (end - at) (drop at bytes) ++ drop (end - at) (drop at bytes)))
-sector_is bytes at end h k = (
-  length-take-le (end - at) (drop at bytes) (rw (length-drop at bytes) (omega arith)),
-  sym (take-append-drop at bytes) ∙ ap (λ t. take at bytes ++ t) (sym (take-append-drop (end - at) (drop at bytes))),
-)
+within taken sector out a b c = grind (arith, nat_tests)
 
 module _ {S : Meaning} (T : Meaning) (l : Laws S) where
   -- what is read in front is read whatever follows

@@ -1,21 +1,20 @@
 -- The end of a text: its last offer faulted, or all is taken and the transcript is closed. Assumes nothing.
-use Rattle.std.proofs.Common.{◌≡◌, ℕ, ◌+◌, ◌-◌, ◌≤◌, List, [], ◌∷◌, ◌++◌, length, take, drop, Some, None, Ok, Err, sym, refl, ap, ◌∙◌, subst, inl, inr, arith, length-append, take_all, take_at, drop_at}
+use Rattle.std.proofs.Common.{◌≡◌, ℕ, ◌+◌, ◌-◌, List, [], ◌∷◌, ◌++◌, length, take, drop, Some, None, Ok, Err, sym, refl, ap, ◌∙◌, subst, inl, inr, arith, length-append, append-nil, take_at, drop_at}
 use Rattle.charset.specs.Meaning.{Meaning, Laws}
 use Rattle.charset.specs.Decoding.{Spells}
 use Rattle.conversion.specs.declared.Fault.TheVariants.{Unfinished}
 use Rattle.answers.specs.declared.FaultAt.{FaultAt}
 use Rattle.answers.specs.declared.Refusal.TheVariants as refusal
 use Rattle.answers.specs.declared.State.TheVariants.{Open}
-use Rattle.answers.specs.declared.Status.{Status}
 use Rattle.transcript.specs.Calls.{Snapshot, CloseAnswer, unfinished, status_of, ClosedOn}
 use Rattle.transcript.specs.Uses.{close, status, Step, call, taken_in, written_in}
 use Rattle.law.specs.Law.{StandsOn}
 use Rattle.law.proofs.Keeping.{stands}
-use Rattle.transcription.specs.Transcribed.{Ends, Transcribed, TheTranscript}
+use Rattle.conversion.specs.Transcribed.{Ends, Transcribed, TheTranscript}
 use Rattle.transcription.specs.Carried.{Outcome, fault_in, offset_in, closing, CarriedOut}
-use Rattle.transcription.proofs.Once.{the_transcript}
+use Rattle.conversion.proofs.Once.{the_transcript}
 use Rattle.transcription.proofs.Along.{Along}
-use Rattle.transcription.proofs.Sectors.{Stopped}
+use Rattle.transcription.proofs.Sectors.{Stopped, refused_by}
 
 -- what is promised of a text and its outcome
 abbrev pub Promised : Meaning → Meaning → (bytes text : List ℕ) → ℕ → Outcome → Type 0
@@ -27,30 +26,29 @@ ClosesTo S T bytes text count (Ok u) = Transcribed S T bytes text count (length 
 ClosesTo S T bytes text count (Err q) = (f : FaultAt) × (q ≡ refusal.Faulted f) × Transcribed S T bytes text count f.offset (Some f.fault)
 
 module _ (S T : Meaning) (l : Laws S) (bytes text : List ℕ) where
-  pub after_fault : (f : FaultAt) (t : Snapshot) (told : Status) → Stopped S T bytes text f t → told ≡ status_of t → Promised S T bytes text told.characters (Err f)
-  after_fault f t told h e =
-      let count : t.characters ≡ told.characters = sym (ap (λ z. z.characters) e) in (
-        the_transcript S T l (subst (λ n. Transcribed S T bytes text n f.offset (Some f.fault)) count h.transcribed),
-        record {
-          offers = h.offers;
-          events = status told ∷ h.offers;
-          last = t;
-          told = told;
-          used = call h.used (e, refl);
-          fed = h.fed;
-          taken_or_faulted = h.answered;
-          ended = inl (f, refl, h.state_is, refl);
-          text_is = h.text_is;
-          characters_is = refl;
-        },
-      )
+  pub after_fault : (f : FaultAt) (t : Snapshot) → Stopped S T bytes text f t → Promised S T bytes text t.characters (Err f)
+  after_fault f t h = (
+    the_transcript S T l h.transcribed,
+    record {
+      offers = h.offers;
+      events = status (status_of t) ∷ h.offers;
+      last = t;
+      told = status_of t;
+      used = call h.used (refl, refl);
+      fed = h.fed;
+      taken_or_faulted = h.answered;
+      ended = inl (f, refl, h.state_is, refl);
+      text_is = h.text_is;
+      characters_is = refl;
+    },
+  )
 
-  module _ (at : ℕ) (s : Snapshot) (along : Along S T bytes text at s) (all : length bytes ≤ at) where
+  module _ (rest : List ℕ) (s : Snapshot) (along : Along S T bytes text rest s) (all : rest ≡ []) where
     before : StandsOn S T (taken_in along.offers) (written_in along.offers) s
     before = stands S T l along.used
 
     taken_all : taken_in along.offers ≡ bytes
-    taken_all = along.taken_is ∙ take_all at bytes all
+    taken_all = sym (along.parts ∙ ap (λ z. taken_in along.offers ++ z) all ∙ append-nil (taken_in along.offers))
 
     whole : bytes ≡ before.decodes.spelt ++ s.held
     whole = sym taken_all ∙ before.decodes.parts
@@ -77,23 +75,22 @@ module _ (S T : Meaning) (l : Laws S) (bytes text : List ℕ) where
 
         go : (h : List ℕ) → s.held ≡ h → (r : CloseAnswer) → ClosedOn Open h s r t → ClosesTo S T bytes text t.characters r
         go [] e (Ok u) c = rw c.1 (up_to (length bytes) None (omega (arith, size, ap length e)) e)
-        go [] e (Err q) c = absurd (let x = c.0 in let z : ◌≡◌ {A = ℕ} 0 1 = cc in omega arith)
-        go (b ∷ bs) e (Ok u) c = absurd (let x = c.0 in let z : ◌≡◌ {A = ℕ} 0 1 = cc in omega arith)
+        go [] e (Err q) c = let x = c.0 in cc
+        go (b ∷ bs) e (Ok u) c = let x = c.0 in cc
         go (b ∷ bs) e (Err q) c =
             let same : q ≡ refusal.Faulted (unfinished s) = (let x = c.0 in cc) in
             (unfinished s, same, rw c.1 (up_to (s.taken - length s.held) (Some Unfinished) (omega (arith, size, count)) (before.decodes.opens, omega (arith, ap length e))))
 
-    pub after_closing : (t : Snapshot) (r : CloseAnswer) (o : Outcome) (told : Status) → Step S T s (close r) t → r ≡ closing o → told ≡ status_of t → Promised S T bytes text told.characters o
-    after_closing t r o told st e f =
-        let step : Step S T s (close (closing o)) t = subst (λ z. Step S T s (close z) t) e st in
-        let count : t.characters ≡ told.characters = sym (ap (λ z. z.characters) f) in (
-          the_transcript S T l (subst (λ n. Transcribed S T bytes text n (offset_in bytes o) (fault_in o)) count (by_outcome o (closes t (closing o) step))),
+    pub after_closing : (t : Snapshot) (r : CloseAnswer) (o : Outcome) → Step S T s (close r) t → r ≡ refused_by o → Promised S T bytes text t.characters o
+    after_closing t r o st e =
+        let step : Step S T s (close (closing o)) t = subst (λ z. Step S T s (close z) t) (e ∙ as_closing o) st in (
+          the_transcript S T l (by_outcome o (closes t (closing o) step)),
           record {
             offers = along.offers;
-            events = status told ∷ (close (closing o) ∷ along.offers);
+            events = status (status_of t) ∷ (close (closing o) ∷ along.offers);
             last = t;
-            told = told;
-            used = call (call along.used step) (f, refl);
+            told = status_of t;
+            used = call (call along.used step) (refl, refl);
             fed = along.fed;
             taken_or_faulted = along.answered;
             ended = inr (taken_all, refl);
@@ -102,6 +99,10 @@ module _ (S T : Meaning) (l : Laws S) (bytes text : List ℕ) where
           },
         )
       where
+        as_closing : (o : Outcome) → refused_by o ≡ closing o
+        as_closing (Ok u) = refl
+        as_closing (Err f) = refl
+
         by_outcome : (o : Outcome) → ClosesTo S T bytes text t.characters (closing o) → Transcribed S T bytes text t.characters (offset_in bytes o) (fault_in o)
         by_outcome (Ok u) h = h
         by_outcome (Err f) h = let same : h.0 ≡ f = (let x = h.1 in cc) in subst (λ z. Transcribed S T bytes text t.characters z.offset (Some z.fault)) same h.2

@@ -1,4 +1,3 @@
-pub mod Once
 pub mod Along
 pub mod Sectors
 pub mod Ending

@@ -1,5 +1,5 @@
 -- One sector more: the text goes on, or ends in a fault, and the output is never too small. Assumes nothing.
-use Rattle.std.proofs.Common.{◌≡◌, ℕ, ◌+◌, ◌-◌, ◌<◌, ◌≤◌, min, ◌⊎◌, List, ◌∷◌, ◌++◌, length, take, drop, Some, None, Ok, Err, sym, refl, ap, ◌∙◌, subst, inl, inr, append_assoc, arith, length-append, length-take, length-take-le, take_at, drop_at}
+use Rattle.std.proofs.Common.{◌≡◌, ℕ, ◌+◌, ◌≤◌, ◌⊎◌, List, ◌∷◌, ◌++◌, length, take, drop, Some, None, Ok, Err, Result, sym, refl, ap, ◌∙◌, subst, inl, inr, append_assoc, arith, length-append, length-take, take_at, drop_at}
 use lib.Seq.{take-append_seam, take-length}
 use Rattle.charset.specs.Meaning.{Meaning, Laws}
 use Rattle.charset.specs.Decoding.{Spells}
@@ -17,9 +17,9 @@ use Rattle.transcript.specs.Uses.{Event, offer, Step, Use, call, wrote, taken_in
 use Rattle.law.specs.Law.{Feeds, StandsOn}
 use Rattle.transcript.proofs.Counting.{spelt_size}
 use Rattle.law.proofs.Keeping.{stands}
-use Rattle.transcription.specs.Transcribed.{Ends, Transcribed}
+use Rattle.conversion.specs.Transcribed.{Ends, Transcribed}
 use Rattle.transcription.specs.Carried.{TakenOrFaulted, AllTakenOrFaulted}
-use Rattle.transcription.proofs.Along.{Along, within, sector_is, ends_on}
+use Rattle.transcription.proofs.Along.{Along, within, ends_on}
 
 -- a last offer met a fault
 pub record Stopped (S T : Meaning) (bytes text : List ℕ) (f : FaultAt) (t : Snapshot) : Type 0 where
@@ -31,36 +31,41 @@ pub record Stopped (S T : Meaning) (bytes text : List ℕ) (f : FaultAt) (t : Sn
   pub text_is : text ≡ written_in offers
   pub transcribed : Transcribed S T bytes text t.characters f.offset (Some f.fault)
 
+-- an answer that is taken or meets a fault, as an answer of a transcript
+abbrev pub refused_by : {X : Type 0} → Result X FaultAt → Result X Refusal
+refused_by (Ok x) = Ok x
+refused_by (Err f) = Err (refusal.Faulted f)
+
 -- what an offer comes to
-abbrev pub ComesTo : Meaning → Meaning → (bytes text after : List ℕ) → ℕ → Snapshot → OfferAnswer → Type 0
-ComesTo S T bytes text after at t (Ok d) = Along S T bytes (text ++ take d.written after) (at + d.taken) t × (0 < d.taken) × (d.written ≤ 16396)
-ComesTo S T bytes text after at t (Err q) = (f : FaultAt) × (q ≡ refusal.Faulted f) × (f.done.written ≤ 16396) × Stopped S T bytes (text ++ take f.done.written after) f t
+abbrev pub ComesTo : Meaning → Meaning → (bytes text after more : List ℕ) → Snapshot → Result Done FaultAt → Type 0
+ComesTo S T bytes text after more t (Ok d) = Along S T bytes (text ++ take d.written after) more t
+ComesTo S T bytes text after more t (Err f) = Stopped S T bytes (text ++ take f.done.written after) f t
 
 -- the end that an answer comes of
 ok_end : (e : End) (d : Done) (o n w : ℕ) → Ok d ≡ answers e o n w → (e ≡ Ok pause.Open) × (d ≡ done n w)
 ok_end (Ok pause.Open) d o n w h = (refl, cc)
-ok_end (Ok pause.Full) d o n w h = absurd (let z : ◌≡◌ {A = ℕ} 0 1 = cc in omega arith)
-ok_end (Err f) d o n w h = absurd (let z : ◌≡◌ {A = ℕ} 0 1 = cc in omega arith)
+ok_end (Ok pause.Full) d o n w h = cc
+ok_end (Err f) d o n w h = cc
 
 err_end : (e : End) (q : Refusal) (o n w : ℕ) → Err q ≡ answers e o n w → (e ≡ Ok pause.Full) ⊎ ((f : Fault) × (e ≡ Err f) × (q ≡ refusal.Faulted (fault_at f o n w)))
-err_end (Ok pause.Open) q o n w h = absurd (let z : ◌≡◌ {A = ℕ} 0 1 = cc in omega arith)
+err_end (Ok pause.Open) q o n w h = cc
 err_end (Ok pause.Full) q o n w h = inl refl
 err_end (Err f) q o n w h = inr (f, refl, cc)
 
-module _ (S T : Meaning) (l : Laws S) (k : Laws T) (bytes text : List ℕ) (at : ℕ) (s t : Snapshot) (sector more out after : List ℕ) (along : Along S T bytes text at s)
-    (parts : bytes ≡ take at bytes ++ (sector ++ more)) (some : 0 < length sector) (few : length sector ≤ 4096) (room : length out ≡ 16396) (small : length bytes ≤ 4294967296) where
+module _ (S T : Meaning) (l : Laws S) (k : Laws T) (bytes text rest : List ℕ) (s t : Snapshot) (sector more out after : List ℕ) (along : Along S T bytes text rest s)
+    (parts : rest ≡ sector ++ more) (few : length sector ≤ 4096) (room : length out ≡ 16396) (small : length bytes ≤ 4294967296) where
   before : StandsOn S T (taken_in along.offers) (written_in along.offers) s
   before = stands S T l along.used
 
-  long : length bytes ≡ at + (length sector + length more)
-  long = ap length parts ∙ length-append (take at bytes) (sector ++ more) ∙ rw (length-take-le at bytes along.inside, length-append sector more) refl
+  whole : bytes ≡ taken_in along.offers ++ (sector ++ more)
+  whole = along.parts ∙ ap (λ z. taken_in along.offers ++ z) parts
 
-  at_taken : s.taken ≡ at
-  at_taken = before.counts_taken ∙ ap length along.taken_is ∙ length-take-le at bytes along.inside
+  long : length bytes ≡ s.taken + (length sector + length more)
+  long = ap length whole ∙ length-append (taken_in along.offers) (sector ++ more) ∙ rw (before.counts_taken, length-append sector more) refl
 
   works : (r : OfferAnswer) → Step S T s (offer sector out r after) t → Worked S T s sector out r after t
   works r st =
-      let fits : s.taken + length sector ≤ 4294967296 = omega (arith, at_taken, long) in
+      let fits : s.taken + length sector ≤ 4294967296 = omega (arith, long) in
       let e : refused s.state s.taken sector out ≡ None = rw along.going (within s.taken sector out few (omega arith) fits) in
       subst (λ o. OfferedIf o S T s sector out r after t) e st
 
@@ -68,7 +73,7 @@ module _ (S T : Meaning) (l : Laws S) (k : Laws T) (bytes text : List ℕ) (at :
   held_few = l.opening_sized s.held before.decodes.opens
 
   feeds : (r : OfferAnswer) → Feeds bytes (offer sector out r after ∷ along.offers)
-  feeds r = ((more, parts ∙ ap (λ z. z ++ (sector ++ more)) (sym along.taken_is)), along.fed)
+  feeds r = ((more, whole), along.fed)
 
   -- a character takes at most four bytes, and has at least one
   never_full : (chars source target : List ℕ) → Reaches S T (s.held ++ sector) (length out) (Ok pause.Full) chars source target → ⊥
@@ -85,7 +90,7 @@ module _ (S T : Meaning) (l : Laws S) (k : Laws T) (bytes text : List ℕ) (at :
   split : (chars source target : List ℕ) (e : End) (h : Reaches S T (s.held ++ sector) (length out) e chars source target) → bytes ≡ (before.decodes.spelt ++ source) ++ (h.rest ++ more)
   split chars source target e h =
       let spelt = before.decodes.spelt in
-      parts ∙ ap (λ z. z ++ (sector ++ more)) (sym along.taken_is ∙ before.decodes.parts) ∙ append_assoc spelt s.held (sector ++ more)
+      whole ∙ ap (λ z. z ++ (sector ++ more)) before.decodes.parts ∙ append_assoc spelt s.held (sector ++ more)
       ∙ ap (λ z. spelt ++ z) (sym (append_assoc s.held sector more) ∙ ap (λ z. z ++ more) h.leads.begins ∙ append_assoc source h.rest more)
       ∙ sym (append_assoc spelt source (h.rest ++ more))
 
@@ -115,64 +120,43 @@ module _ (S T : Meaning) (l : Laws S) (k : Laws T) (bytes text : List ℕ) (at :
   text_more : (r : OfferAnswer) (n : ℕ) → wrote r ≡ n → text ++ take n after ≡ written_in (offer sector out r after ∷ along.offers)
   text_more r n e = ap (λ z. z ++ take n after) along.text_is ∙ ap (λ z. written_in along.offers ++ take z after) (sym e)
 
-  goes_on : (d : Done) → Step S T s (offer sector out (Ok d) after) t → Worked S T s sector out (Ok d) after t → ComesTo S T bytes text after at t (Ok d)
+  goes_on : (d : Done) → Step S T s (offer sector out (Ok d) after) t → Worked S T s sector out (Ok d) after t → ComesTo S T bytes text after more t (Ok d)
   goes_on d st w =
       let end = ok_end w.end d (offset_of s w.source) (takes w.end s.held sector w.source) (length w.target) w.answer in
       let all : d.taken ≡ length sector = ap (λ z. z.taken) end.1 ∙ ap (λ z. takes z s.held sector w.source) end.0 in
-      let next : s.taken + length sector ≡ at + length sector = ap (λ z. z + length sector) at_taken in (
-        record {
-          offers = offer sector out (Ok d) after ∷ along.offers;
-          used = call along.used st;
-          fed = feeds (Ok d);
-          answered = (tt, along.answered);
-          going = ap (λ z. z.state) w.next ∙ ap (λ z. state_after z (offset_of s w.source) (takes w.end s.held sector w.source) (length w.target)) end.0;
-          inside = omega (arith, all, long);
-          taken_is = ap (λ z. z ++ take d.taken sector) along.taken_is ∙ ap (λ n. take at bytes ++ take n sector) all ∙ ap (λ z. take at bytes ++ z) (take-length sector)
-              ∙ sym (ap (λ n. take (at + n) bytes) all ∙ taken_on);
-          text_is = text_more (Ok d) d.written refl;
-        },
-        omega (arith, all),
-        omega (arith, ap (λ z. z.written) end.1, w.reaches.leads.fits),
-      )
-    where
-      taken_on : take (at + length sector) bytes ≡ take at bytes ++ sector
-      taken_on = ap (take (at + length sector)) (parts ∙ sym (append_assoc (take at bytes) sector more)) ∙ take_at (take at bytes ++ sector) more (at + length sector) (length-append (take at bytes) sector ∙ ap (λ n. n + length sector) (length-take-le at bytes along.inside))
+      let taken : take d.taken sector ≡ sector = ap (λ n. take n sector) all ∙ take-length sector in
+      record {
+        offers = offer sector out (Ok d) after ∷ along.offers;
+        used = call along.used st;
+        fed = feeds (Ok d);
+        answered = (tt, along.answered);
+        going = ap (λ z. z.state) w.next ∙ ap (λ z. state_after z (offset_of s w.source) (takes w.end s.held sector w.source) (length w.target)) end.0;
+        parts = whole ∙ sym (append_assoc (taken_in along.offers) sector more) ∙ ap (λ z. (taken_in along.offers ++ z) ++ more) (sym taken);
+        text_is = text_more (Ok d) d.written refl;
+      }
 
-  faults : (q : Refusal) → Step S T s (offer sector out (Err q) after) t → (w : Worked S T s sector out (Err q) after t) → (f : Fault) → w.end ≡ Err f
-      → q ≡ refusal.Faulted (fault_at f (offset_of s w.source) (takes w.end s.held sector w.source) (length w.target)) → ComesTo S T bytes text after at t (Err q)
-  faults q st w f e g =
-      let p = fault_at f (offset_of s w.source) (takes w.end s.held sector w.source) (length w.target) in
-      let put : take (length w.target) after ≡ w.target = ap (take (length w.target)) w.left ∙ take-append_seam w.target _ in (
-        p,
-        g,
-        omega (arith, w.reaches.leads.fits),
-        record {
-          offers = offer sector out (Err q) after ∷ along.offers;
-          used = call along.used st;
-          fed = feeds (Err q);
-          answered = (subst (λ z. TakenOrFaulted (Err z)) (sym g) tt, along.answered);
-          state_is = ap (λ z. z.state) w.next ∙ ap (λ z. state_after z (offset_of s w.source) (takes w.end s.held sector w.source) (length w.target)) e;
-          text_is = text_more (Err q) (length w.target) (ap (λ z. wrote (Err z)) g);
-          transcribed = subst (λ z. Transcribed S T bytes (text ++ z) t.characters (offset_of s w.source) (Some f)) (sym put)
-              (fault_ends f w.chars w.source w.target t.characters (subst (λ z. Reaches S T (s.held ++ sector) (length out) z w.chars w.source w.target) e w.reaches) (ap (λ z. z.characters) w.next));
-        },
-      )
+  faults : (q : Refusal) → Step S T s (offer sector out (Err q) after) t → (w : Worked S T s sector out (Err q) after t) → (f : Fault) → w.end ≡ Err f → (p : FaultAt)
+      → p ≡ fault_at f (offset_of s w.source) (takes w.end s.held sector w.source) (length w.target) → q ≡ refusal.Faulted p → ComesTo S T bytes text after more t (Err p)
+  faults q st w f e p g h =
+      let put : take (length w.target) after ≡ w.target = ap (take (length w.target)) w.left ∙ take-append_seam w.target _ in
+      rw g (record {
+        offers = offer sector out (Err q) after ∷ along.offers;
+        used = call along.used st;
+        fed = feeds (Err q);
+        answered = (subst (λ z. TakenOrFaulted (Err z)) (sym h) tt, along.answered);
+        state_is = ap (λ z. z.state) w.next ∙ ap (λ z. state_after z (offset_of s w.source) (takes w.end s.held sector w.source) (length w.target)) e;
+        text_is = text_more (Err q) (length w.target) (ap (λ z. wrote (Err z)) (h ∙ ap refusal.Faulted g));
+        transcribed = subst (λ z. Transcribed S T bytes (text ++ z) t.characters (offset_of s w.source) (Some f)) (sym put)
+            (fault_ends f w.chars w.source w.target t.characters (subst (λ z. Reaches S T (s.held ++ sector) (length out) z w.chars w.source w.target) e w.reaches) (ap (λ z. z.characters) w.next));
+      })
 
-  pub comes_to : (r : OfferAnswer) → Step S T s (offer sector out r after) t → ComesTo S T bytes text after at t r
-  comes_to (Ok d) st = goes_on d st (works (Ok d) st)
+  pub comes_to : (r : OfferAnswer) → Step S T s (offer sector out r after) t → (m : Result Done FaultAt) × (r ≡ refused_by m) × ComesTo S T bytes text after more t m
+  comes_to (Ok d) st = (Ok d, refl, goes_on d st (works (Ok d) st))
   comes_to (Err q) st =
       let w = works (Err q) st in
       elim (err_end w.end q (offset_of s w.source) (takes w.end s.held sector w.source) (length w.target) w.answer) [
         | inl e ↦ absurd (never_full w.chars w.source w.target (subst (λ z. Reaches S T (s.held ++ sector) (length out) z w.chars w.source w.target) e w.reaches))
-        | inr g ↦ faults q st w g.0 g.1 g.2
+        | inr g ↦
+            let p = fault_at g.0 (offset_of s w.source) (takes w.end s.held sector w.source) (length w.target) in
+            (Err p, ap Err g.2, faults q st w g.0 g.1 p refl g.2)
       ]
-
--- the same for the sector that the loop takes
-pub next_sector : (S T : Meaning) → Laws S → Laws T → (bytes text : List ℕ) (at end : ℕ) (s t : Snapshot) (out after : List ℕ) (r : OfferAnswer) → Along S T bytes text at s → length bytes ≤ 4294967296 → at < length bytes
-    → end ≡ min (length bytes) (at + 4096) → length out ≡ 16396 → Step S T s (offer (take (end - at) (drop at bytes)) out r after) t → ComesTo S T bytes text after at t r
-next_sector S T l k bytes text at end s t out after r along small h e room st =
-    let low : at < end = omega arith in
-    let high : end ≤ length bytes = omega arith in
-    let few : end ≤ at + 4096 = omega arith in
-    let sector = sector_is bytes at end (omega arith) high in
-    comes_to S T l k bytes text at s t (take (end - at) (drop at bytes)) (drop (end - at) (drop at bytes)) out after along sector.1 (omega (arith, sector.0)) (omega (arith, sector.0)) room small r st

@@ -27,11 +27,6 @@ abbrev pub closing : Outcome → CloseAnswer
 closing (Ok u) = Ok tt
 closing (Err f) = Err (refusal.Faulted f)
 
--- a closing that is accepted or meets a fault
-abbrev pub AcceptedOrFaulted : CloseAnswer → Type 0
-AcceptedOrFaulted (Ok u) = Unit {0}
-AcceptedOrFaulted (Err q) = (f : FaultAt) × (q ≡ refusal.Faulted f)
-
 -- an offer that is taken or meets a fault, and no other: in particular no output was too small
 abbrev pub TakenOrFaulted : OfferAnswer → Type 0
 TakenOrFaulted (Ok d) = Unit {0}

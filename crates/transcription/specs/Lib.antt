@@ -1,3 +1,2 @@
-pub mod Transcribed
 pub mod Carried
 pub mod Failures

@@ -8,8 +8,9 @@ ghost use Rattle.answers.specs.declared.Refusal.TheVariants.{Faulted};
 ghost use Rattle.law.specs.Stacks.{TheLaw};
 ghost use Rattle.transcription.specs.declared.Failure.TheVariants.{NoMemory};
 ghost use Rattle.transcription.specs.Failures.{IsTooLong, message};
-ghost use Rattle.transcription.specs.Carried.{fault_in, offset_in, closing, AcceptedOrFaulted, CarriedOut};
-ghost use Rattle.transcription.specs.Transcribed.{TheTranscript};
+ghost use Rattle.transcript.specs.Snapshots.{snapshot};
+ghost use Rattle.transcription.specs.Carried.{fault_in, offset_in, CarriedOut};
+ghost use Rattle.conversion.specs.Transcribed.{TheTranscript};
 
 use answers::{FaultAt, Refusal};
 use charset::CharacterSet;
@@ -47,6 +48,7 @@ impl From<AllocError> for Failure {
     }
 }
 
+// Nothing here fails so; it stays for callers that push, as no public promise may go.
 impl<X: Drop> From<AllocFailed<X>> for Failure {
     ghost from_gives = { λ _ r. r ≡ NoMemory };
 
@@ -63,30 +65,41 @@ pub struct Transcription {
     pub outcome: Result<(), FaultAt>,
 }
 
-// Room for what an offer can write: four bytes for each byte of a sector and each of the three that can be held.
-const ROOM: usize = 16_396;
+impl Transcription {
+    // What a transcript has come to, with the text that it wrote.
+    fn of<S: CharacterSet, T: CharacterSet>(
+        transcript: &Transcript<S, T>,
+        text: Vec<u8>,
+        outcome: Result<(), FaultAt>,
+    ) -> Transcription
+        ensures text { result.text ≡ text }
+        ensures characters { result.characters ≡ (snapshot transcript.now.progress).characters }
+        ensures outcome { result.outcome ≡ outcome }
+    {
+        Transcription {
+            text,
+            characters: transcript.status().characters,
+            outcome,
+        }
+    }
+}
 
+// Room for what an offer can write: four bytes for each byte of a sector and each of the three that can be held.
+const ROOM: usize = 4 * (LONGEST_SECTOR + 3);
+
+// The fault that a refusal is.
 fn fault_of(refusal: Refusal) -> FaultAt
     requires { (f : Placed) × (refusal ≡ Faulted f) }
     ensures { refusal ≡ Faulted result }
 {
-    match refusal {
-        Refusal::Faulted(fault) => fault,
-        _ => unreachable(),
-    }
-}
-
-fn outcome_of(answer: Result<(), Refusal>) -> Result<(), FaultAt>
-    requires { AcceptedOrFaulted answer }
-    ensures { answer ≡ closing result }
-{
-    match answer {
-        Ok(()) => Ok(()),
-        Err(refusal) => Err(fault_of(refusal)),
-    }
+    let Refusal::Faulted(fault) = refusal else {
+        unreachable!()
+    };
+    fault
 }
 
 // Offers the bytes to a transcript, sector after sector, until a fault or the end, and closes it at the end.
+#[tactic(auto, using(law::proofs::Whole::the_law))]
 pub fn transcribe<S: CharacterSet + Drop, T: CharacterSet + Drop>(
     heap: Global,
     source: S,
@@ -104,31 +117,15 @@ pub fn transcribe<S: CharacterSet + Drop, T: CharacterSet + Drop>(
     let mut transcript = Transcript::new(source, target);
     let mut output = [0u8; ROOM];
     let mut text = Vec::new(heap);
-    let mut at = 0;
-    'sectors: while at < bytes.len() {
-        let end = bytes.len().min(at + LONGEST_SECTOR);
-        match transcript.offer(&bytes[at..end], &mut output) {
-            Ok(done) => {
-                let written = done.written;
-                text.extend_from_slice(&output[0..written])?;
-                at += done.taken;
-            }
-            Err(refusal) => {
-                let fault = fault_of(refusal);
-                let written = fault.done.written;
-                text.extend_from_slice(&output[0..written])?;
-                return Ok(Transcription {
-                    text,
-                    characters: transcript.status().characters,
-                    outcome: Err(fault),
-                });
+    for sector in bytes.chunks(LONGEST_SECTOR) {
+        match transcript.offer(sector, &mut output).map_err(fault_of) {
+            Ok(done) => text.extend_from_slice(&output[..done.written])?,
+            Err(fault) => {
+                text.extend_from_slice(&output[..fault.done.written])?;
+                return Ok(Transcription::of(&transcript, text, Err(fault)));
             }
         }
     }
-    let outcome = outcome_of(transcript.close());
-    Ok(Transcription {
-        text,
-        characters: transcript.status().characters,
-        outcome,
-    })
+    let outcome = transcript.close().map_err(fault_of);
+    Ok(Transcription::of(&transcript, text, outcome))
 }

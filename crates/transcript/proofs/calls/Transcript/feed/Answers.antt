@@ -1,4 +1,3 @@
-use Rattle.std.proofs.Common.{refl}
 use Rattle.charset.specs.Sets.{set_of}
 use Rattle.transcript.specs.Snapshots.{snapshot}
 use Rattle.transcript.proofs.Counting.{possible, offered_open}
@@ -12,15 +11,11 @@ settle-requires g c =
     possible (set_of s x) (set_of t y) (g.met.S.CharacterSet.lawful x) (g.met.T.CharacterSet.lawful y)
     (snapshot m.progress) c.args.sector.now c.args.output.now c.convert-run.new.output c.convert-run.result c.convert-run.ensures c.in_ok-within_limits.ensures
 
-pub returns : goal.returns
-returns g c =
+pub returns-clause-told : goal.returns-clause-told
+returns-clause-told g c =
     let m = c.args.self.now in
     let s = g.S.CharacterSet in let x = m.source in
     let t = g.T.CharacterSet in let y = m.target in
-    record {
-      sets = (refl, refl);
-      told =
-          offered_open (set_of s x) (set_of t y) (g.met.S.CharacterSet.lawful x) (g.met.T.CharacterSet.lawful y)
-          (snapshot m.progress) c.args.sector.now c.args.output.now c.convert-run.new.output c.convert-run.result c.convert-run.ensures c.in_ok-within_limits.ensures
-          c.settle.result (snapshot c.settle.new.self) c.settle.ensures;
-    }
+    offered_open (set_of s x) (set_of t y) (g.met.S.CharacterSet.lawful x) (g.met.T.CharacterSet.lawful y)
+    (snapshot m.progress) c.args.sector.now c.args.output.now c.convert-run.new.output c.convert-run.result c.convert-run.ensures c.in_ok-within_limits.ensures
+    c.settle.result (snapshot c.settle.new.self) c.settle.ensures
