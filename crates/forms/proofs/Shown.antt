@@ -25,10 +25,9 @@ use Rattle.answers.specs.declared.State.TheVariants.{Open}
 use Rattle.answers.specs.declared.State.TheVariants as state
 use Rattle.transcript.specs.Calls.{done, fault_at}
 use Rattle.transcript.specs.Uses.{start, offer, Use, made, call}
+use Rattle.page_stacks.proofs.Shown.{by_reading}
+use Rattle.page_stacks.proofs.Shown.{worked_examples as of_sets_and_layers}
 use Rattle.forms.specs.Examples.{WorkedExamples}
-
-by_reading : {m : Meaning} → Laws m → (s : List ℕ) (r : Answer) → reading m s ≡ r → Reads m s r
-by_reading l s r e = rw (← e) (reading_reads l s)
 
 -- ISO/IEC 6937 into ISO/IEC 8859-16
 abbrev latin : Meaning
@@ -91,19 +90,8 @@ cedilla_offered = call made (record {
 })
 
 pub worked_examples : WorkedExamples
-unfolding reading supplementary diacritics first_from ones
 worked_examples = record {
-  e_acute = by_reading iso6937_laws (0xc2 ∷ 0x65 ∷ []) (Ok (reading.Found 0xe9 2)) refl;
-  acute_open = by_reading iso6937_laws (0xc2 ∷ []) (Ok reading.Open) refl;
-  acute_stop = by_reading iso6937_laws (0xc2 ∷ 0x2e ∷ []) (Err (refusal NoPair)) refl;
-  unused = by_reading iso6937_laws (0xe5 ∷ []) (Err (refusal NotInUse)) refl;
-  no_eth = refl;
-  shifted_e_acute = by_reading (shift_laws iso6937_laws) (0x19 ∷ 0x42 ∷ 0x65 ∷ []) (Ok (reading.Found 0xe9 3)) refl;
-  two_shifts = by_reading (shift_laws iso6937_laws) (0x19 ∷ 0x19 ∷ []) (Err (own 35)) refl;
-  parity_e_acute = refl;
-  odd_byte = by_reading (parity_laws (shift_laws iso6937_laws)) (0x19 ∷ []) (Err (own 34)) refl;
-  two_shifts_below = by_reading (parity_laws (shift_laws iso6937_laws)) (0x99 ∷ 0x99 ∷ []) (Err (up (own 35))) refl;
-  open_after_four = by_reading (shift_laws utf8_laws) (0x19 ∷ 0x62 ∷ 0x19 ∷ 0x20 ∷ []) (Err (own 36)) refl;
+  of_sets_and_layers = of_sets_and_layers;
   acute_held = acute_offered;
   letter_next = letter_offered;
   no_cedilla = cedilla_offered;

@@ -22,14 +22,14 @@ use Rattle.layers.proofs.Wording.{parity_meaning, shift_meaning}
 use Rattle.layers.proofs.MoreWording.{sub_meaning, controls_meaning}
 use Rattle.conversion.specs.declared.Fault.{Fault}
 use Rattle.conversion.specs.declared.Fault.TheVariants.{Unwritten}
-use Rattle.transcription.specs.Transcribed.{Ends}
+use Rattle.conversion.specs.Transcribed.{Ends}
 use Rattle.transcription.specs.declared.Failure.{Failure}
 use Rattle.transcription.specs.declared.Transcription.{Transcription}
 use Rattle.transcription.specs.Carried.{fault_in, offset_in}
 use Rattle.pages.specs.declared.page.Form.{Form}
 use Rattle.pages.specs.declared.page.Form.TheVariants.{EightBit, SevenBit, SevenBitParity, Latin10, Sami, Unicode, Basic}
 use Rattle.forms.specs.Forms.{form_set}
-use Rattle.forms.specs.PageControls.{page_controls}
+use Rattle.page_stacks.specs.PageControls.{page_controls}
 use Rattle.forms.specs.Texts.{TextOf, AlwaysWritten}
 
 abbrev InUtf8 : ℕ → Type 0

@@ -8,7 +8,7 @@ use Rattle.layers.specs.CharacterList.{required}
 use Rattle.layers.specs.Layers.{parity, shift, sub, controls}
 use Rattle.pages.specs.declared.page.Form.{Form}
 use Rattle.pages.specs.declared.page.Form.TheVariants.{EightBit, SevenBit, SevenBitParity, Latin10, Sami, Unicode, Basic}
-use Rattle.forms.specs.PageControls.{page_controls}
+use Rattle.page_stacks.specs.PageControls.{page_controls}
 
 abbrev pub form_set : Form → Meaning
 form_set EightBit = controls page_controls iso6937

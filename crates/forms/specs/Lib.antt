@@ -1,4 +1,3 @@
-pub mod PageControls
 pub mod Examples
 pub mod Forms
 pub mod Texts

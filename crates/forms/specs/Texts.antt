@@ -1,18 +1,18 @@
 -- The text of a page. Assumes nothing.
-use Rattle.std.specs.Prelude.{◌≡◌, ℕ, ◌<◌, ◌⊎◌, List, [], length, Some, Ok, Err, vec_items, Option, Result, ◌≢◌}
+use Rattle.std.specs.Prelude.{◌≡◌, ℕ, ◌<◌, ◌⊎◌, List, [], length, Some, None, Ok, Err, vec_items, Option, Result, ◌≢◌}
 use Rattle.charset.specs.Meaning.{Meaning}
 use Rattle.sets.specs.Utf8.{utf8}
 use Rattle.conversion.specs.declared.Fault.{Fault}
 use Rattle.conversion.specs.declared.Fault.TheVariants.{Unwritten}
-use Rattle.answers.specs.declared.FaultAt.{FaultAt}
 use Rattle.transcription.specs.declared.Transcription.{Transcription}
 use Rattle.transcription.specs.Carried.{Outcome, fault_in, offset_in, CarriedOut}
-use Rattle.transcription.specs.Transcribed.{TheTranscript}
+use Rattle.conversion.specs.Transcribed.{TheTranscript}
 use Rattle.pages.specs.declared.fault.RollFault.{RollFault}
 use Rattle.pages.specs.declared.fault.RollFault.TheVariants.{WrongSize, Faulted}
+use Rattle.pages.specs.declared.page.Form.{Form}
 use Rattle.pages.specs.declared.page.Page.{Page}
 use Rattle.pages.specs.declared.page.Page.TheVariants.{Text, Picture}
-use Rattle.pages.specs.Forms.{form_number}
+use Rattle.forms.specs.declared.PageText.{PageText}
 use Rattle.forms.specs.Forms.{form_set}
 
 -- the bytes in that set, in UTF-8: the characters up to the end or a fault, by a use of a transcript
@@ -27,19 +27,19 @@ TextOf m bytes p = TextIn m bytes (vec_items p.text) p.characters p.outcome
 abbrev pub AlwaysWritten : Option Fault → Type 0
 AlwaysWritten stop = (c : ℕ) → stop ≢ Some (Unwritten c)
 
--- an outcome with the page number, beside the fault and as the roll's
-abbrev pub numbered : ℕ → Outcome → Result (Unit {0}) (ℕ × FaultAt)
-numbered n (Ok u) = Ok tt
-numbered n (Err f) = Err (n, f)
-
+-- an outcome as the roll's, with the page number
 abbrev pub on_page : ℕ → Outcome → Result (Unit {0}) RollFault
 on_page n (Ok u) = Ok tt
 on_page n (Err f) = Err (Faulted n f)
 
--- the number of a page's form; a picture has 0
-abbrev pub page_form : Page → ℕ
-page_form (Text f part at) = form_number f
-page_form (Picture part at) = 0
+-- a page's form; a picture has none
+abbrev pub page_form : Page → Option Form
+page_form (Text f part at) = Some f
+page_form (Picture part at) = None
+
+-- no text
+abbrev pub IsEmptyText : Option Form → Result (Unit {0}) RollFault → PageText → Type 0
+IsEmptyText form r t = (t.form ≡ form) × (vec_items t.text ≡ []) × (t.characters ≡ 0) × (t.outcome ≡ r)
 
 -- a page of text is transcribed by its form, unless it is longer than a source may be, and so than any roll; a picture has no text
 abbrev pub IsPageText : ℕ → Page → (text : List ℕ) → (characters : ℕ) → Result (Unit {0}) RollFault → Type 0

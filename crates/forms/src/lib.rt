@@ -8,18 +8,16 @@ ghost use Rattle.transcription.specs.declared.Failure.TheVariants.{TooLong};
 ghost use Rattle.transcription.specs.Carried.{fault_in};
 ghost use Rattle.forms.specs.Examples.{WorkedExamples};
 ghost use Rattle.forms.specs.Forms.{form_set};
-ghost use Rattle.forms.specs.PageControls.{page_controls};
-ghost use Rattle.forms.specs.Texts.{TextOf, AlwaysWritten, numbered, on_page, page_form, IsPageText};
-
-mod stacks;
+ghost use Rattle.page_stacks.specs.PageControls.{page_controls};
+ghost use Rattle.forms.specs.Texts.{TextOf, AlwaysWritten, on_page, page_form, IsEmptyText, IsPageText};
 
 use answers::FaultAt;
 use charset::CharacterSet;
 use layers::{CharacterList, with_controls, with_list, with_parity, with_shift};
+use page_stacks::PAGE_CONTROLS;
+pub use page_stacks::{read_three_deep, read_with_parity};
 use pages::{Form, Page, RollFault};
 use sets::{Iso6937, SingleByte, Utf8};
-use stacks::PAGE_CONTROLS;
-pub use stacks::{read_three_deep, read_with_parity};
 use std::alloc::{AllocError, Global};
 use transcription::{Failure, Transcription, transcribe};
 
@@ -36,12 +34,14 @@ fn with_page_controls<S: CharacterSet + Drop>(
 }
 
 // Bytes of a form, in UTF-8.
+#[tactic(auto, using(crate::proofs::Shown::worked_examples))]
 pub fn form_text(heap: Global, form: Form, bytes: &[u8]) -> Result<Transcription, Failure>
     ensures text { IfOk result (λ p. TextOf (form_set form) bytes.now p) }
     ensures too_long { result ≡ Err TooLong → 4294967296 < length bytes.now }
     ensures always_written { IfOk result (λ p. AlwaysWritten (fault_in p.outcome)) }
     ensures worked_examples { WorkedExamples }
 {
+    // Each form has a stack of another type, which neither a closure nor one generic call can choose.
     match form {
         Form::EightBit => with_page_controls(heap, Iso6937, bytes),
         Form::SevenBit => with_page_controls(heap, with_shift(Iso6937), bytes),
@@ -59,31 +59,35 @@ pub fn form_text(heap: Global, form: Form, bytes: &[u8]) -> Result<Transcription
     }
 }
 
-// The text of a page up to its end or a fault, the number of its form, and how many characters it has.
+// The text of a page up to its end or a fault, its form, which a picture has not, and how many characters it has.
 #[derive(Drop)]
 pub struct PageText {
-    pub form: u8,
+    pub form: Option<Form>,
     pub text: Vec<u8>,
     pub characters: u64,
     pub outcome: Result<(), RollFault>,
-}
-
-// The page number beside a fault.
-fn beside(page: u32, outcome: Result<(), FaultAt>) -> Result<(), (u32, FaultAt)>
-    ensures { result ≡ numbered page outcome }
-{
-    match outcome {
-        Ok(()) => Ok(()),
-        Err(fault) => Err((page, fault)),
-    }
 }
 
 // The transcript's fault as the roll's.
 fn on_page(page: u32, outcome: Result<(), FaultAt>) -> Result<(), RollFault>
     ensures { result ≡ on_page page outcome }
 {
-    beside(page, outcome)?;
+    outcome.map_err(|fault| (page, fault))?;
     Ok(())
+}
+
+impl PageText {
+    // A page with no text.
+    fn empty(heap: Global, form: Option<Form>, outcome: Result<(), RollFault>) -> PageText
+        ensures { IsEmptyText form outcome result }
+    {
+        PageText {
+            form,
+            text: Vec::new(heap),
+            characters: 0,
+            outcome,
+        }
+    }
 }
 
 // The text of a page; a fault carries `number`, the page's number from 1. A page that is longer than a source may be, which no roll can
@@ -92,29 +96,17 @@ pub fn page_text(heap: Global, number: u32, page: &Page) -> Result<PageText, All
     ensures form { IfOk result (λ t. t.form ≡ page_form page.now) }
     ensures text { IfOk result (λ t. IsPageText number page.now t.text.items t.characters t.outcome) }
 {
-    match page {
-        Page::Text { form, part, .. } => match form_text(heap, *form, part) {
-            Ok(read) => Ok(PageText {
-                form: form.number(),
-                text: read.text,
-                characters: read.characters,
-                outcome: on_page(number, read.outcome),
-            }),
-            Err(failure) => match failure {
-                Failure::NoMemory => Err(AllocError),
-                Failure::TooLong => Ok(PageText {
-                    form: form.number(),
-                    text: Vec::new(heap),
-                    characters: 0,
-                    outcome: Err(RollFault::WrongSize),
-                }),
-            },
-        },
-        Page::Picture { .. } => Ok(PageText {
-            form: 0,
-            text: Vec::new(heap),
-            characters: 0,
-            outcome: Ok(()),
+    let Page::Text { form, part, .. } = *page else {
+        return Ok(PageText::empty(heap, None, Ok(())));
+    };
+    match form_text(heap, form, part) {
+        Ok(read) => Ok(PageText {
+            form: Some(form),
+            text: read.text,
+            characters: read.characters,
+            outcome: on_page(number, read.outcome),
         }),
+        Err(Failure::TooLong) => Ok(PageText::empty(heap, Some(form), Err(RollFault::WrongSize))),
+        Err(Failure::NoMemory) => Err(AllocError),
     }
 }

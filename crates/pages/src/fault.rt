@@ -24,18 +24,17 @@ pub enum RollFault {
 }
 
 // The transcript's fault, with the page number.
+// The format asks for this form: the fault and its page by From.
 impl From<(u32, FaultAt)> for RollFault {
     ghost from_gives = { λ e r. r ≡ Faulted e.0 e.1 };
 
-    fn from(at: (u32, FaultAt)) -> RollFault {
-        RollFault::Faulted {
-            page: at.0,
-            fault: at.1,
-        }
+    fn from((page, fault): (u32, FaultAt)) -> RollFault {
+        RollFault::Faulted { page, fault }
     }
 }
 
 // A refusal by its number, with the values that come with it; those that do not are 0.
+// The format asks for this form: what is printed is numbers.
 #[derive(Clone, Copy)]
 pub struct RollTold {
     pub number: u8,
@@ -44,14 +43,17 @@ pub struct RollTold {
     pub offset: u64,
 }
 
-fn alone(number: u8) -> RollTold
-    ensures { result ≡ alone number }
-{
-    RollTold {
-        number,
-        entry: 0,
-        page: 0,
-        offset: 0,
+impl RollTold {
+    // A number with no values.
+    fn alone(number: u8) -> RollTold
+        ensures { result ≡ alone number }
+    {
+        RollTold {
+            number,
+            entry: 0,
+            page: 0,
+            offset: 0,
+        }
     }
 }
 
@@ -61,22 +63,19 @@ impl RollFault {
         ensures { result ≡ told self.now }
     {
         match *self {
-            RollFault::WrongSize => alone(14),
-            RollFault::NoMark => alone(15),
-            RollFault::WrongIndex => alone(16),
+            RollFault::WrongSize => RollTold::alone(14),
+            RollFault::NoMark => RollTold::alone(15),
+            RollFault::WrongIndex => RollTold::alone(16),
             RollFault::BadEntry(entry) => RollTold {
-                number: 17,
                 entry,
-                page: 0,
-                offset: 0,
+                ..RollTold::alone(17)
             },
-            RollFault::WrongTotal => alone(18),
-            RollFault::NoSuchPage => alone(19),
+            RollFault::WrongTotal => RollTold::alone(18),
+            RollFault::NoSuchPage => RollTold::alone(19),
             RollFault::Faulted { page, fault } => RollTold {
-                number: fault_number(fault.fault),
-                entry: 0,
                 page,
                 offset: fault.offset,
+                ..RollTold::alone(fault_number(fault.fault))
             },
         }
     }

@@ -5,4 +5,4 @@ mod fault;
 mod page;
 
 pub use fault::{RollFault, RollTold};
-pub use page::{Form, Page};
+pub use page::{Form, Page, UnknownForm};

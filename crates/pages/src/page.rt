@@ -1,6 +1,6 @@
 // A page of a roll: text with its form, or a picture.
 ghost use Rattle.std.specs.Prelude.{◌≡◌};
-ghost use Rattle.pages.specs.Forms.{form_number};
+ghost use Rattle.pages.specs.Forms.{form_number, FormOf};
 
 // The form of a page of text: its character set with the layers on it.
 #[derive(Clone, Copy, PartialEq, Eq, Debug)]
@@ -21,11 +21,15 @@ pub enum Form {
     Basic,
 }
 
-impl Form {
-    pub fn number(&self) -> u8
-        ensures { result ≡ form_number self.now }
-    {
-        match self {
+// A number that no form of text has.
+#[derive(Clone, Copy, PartialEq, Eq, Debug)]
+pub struct UnknownForm(pub u8);
+
+impl From<Form> for u8 {
+    ghost from_gives = { λ form n. n ≡ form_number form };
+
+    fn from(form: Form) -> u8 {
+        match form {
             Form::EightBit => 1,
             Form::SevenBit => 2,
             Form::SevenBitParity => 3,
@@ -37,7 +41,27 @@ impl Form {
     }
 }
 
+impl TryFrom<u8> for Form {
+    type Error = UnknownForm;
+
+    ghost try_from_gives = { FormOf };
+
+    fn try_from(number: u8) -> Result<Form, UnknownForm> {
+        match number {
+            1 => Ok(Form::EightBit),
+            2 => Ok(Form::SevenBit),
+            3 => Ok(Form::SevenBitParity),
+            4 => Ok(Form::Latin10),
+            5 => Ok(Form::Sami),
+            6 => Ok(Form::Unicode),
+            7 => Ok(Form::Basic),
+            _ => Err(UnknownForm(number)),
+        }
+    }
+}
+
 // The part of the roll that the page is, and where it begins in the roll.
+// The format asks for this form: cases that hold the borrowed part.
 #[derive(Clone, Copy)]
 pub enum Page<'a> {
     Text {

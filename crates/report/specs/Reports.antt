@@ -1,10 +1,13 @@
 -- What is written of a roll. Assumes nothing.
-use Rattle.std.specs.Prelude.{◌≡◌, ℕ, zero, suc, ◌+◌, ◌<◌, ◌≤◌, ◌⊎◌, List, [], ◌∷◌, ◌++◌, length, decimal, Result}
+use Rattle.std.specs.Prelude.{◌≡◌, ℕ, zero, suc, ◌+◌, ◌<◌, ◌≤◌, ◌⊎◌, List, [], ◌∷◌, ◌++◌, length, Ok, Err, decimal, Result}
 use Rattle.pages.specs.declared.fault.RollFault.{RollFault}
+use Rattle.pages.specs.declared.fault.RollFault.TheVariants.{WrongSize}
 use Rattle.pages.specs.declared.page.Page.{Page}
 use Rattle.pages.specs.Told.{told}
+use Rattle.roll.specs.declared.roll.Roll.{Roll}
 use Rattle.roll.specs.Format.{page_count}
 use Rattle.roll.specs.Opened.{Refuses, Accepted}
+use Rattle.roll.specs.Rolls.{bytes_of}
 use Rattle.roll.specs.Pages.{PartAt}
 use Rattle.forms.specs.Texts.{page_form, IsPageText}
 use Rattle.report.specs.Lines.{block_of}
@@ -29,6 +32,11 @@ PagesWritten b (suc k) out = (front block : List ℕ) × PagesWritten b k front 
 -- a number alone on a line
 abbrev pub number_line : ℕ → List ℕ
 number_line n = decimal n ++ (0x0a ∷ [])
+
+-- an input over 65,536 bytes is refused by 14, and any other as a roll is
+abbrev pub Opens : List ℕ → Result Roll RollFault → Type 0
+Opens b (Ok roll) = (length b ≤ 65536) × (bytes_of roll ≡ b)
+Opens b (Err e) = ((65536 < length b) × (e ≡ WrongSize)) ⊎ ((length b ≤ 65536) × Refuses b e)
 
 -- an input over 65,536 bytes is answered by 14, a refused roll by its number, and any other by its pages
 abbrev pub Reports : List ℕ → List ℕ → Type 0

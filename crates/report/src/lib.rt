@@ -1,14 +1,14 @@
 // What is written of a roll.
 #![tactic(auto)]
 
-ghost use Rattle.std.specs.Prelude.{◌≡◌, ℕ, ◌+◌, ◌≤◌, ◌++◌, IfOk, string_bytes};
-ghost use Rattle.roll.specs.Format.{index_offset, page_count};
-ghost use Rattle.roll.specs.Opened.{Accepted, Opened};
+ghost use Rattle.std.specs.Prelude.{◌≡◌, IfOk, string_bytes};
+ghost use Rattle.roll.specs.Format.{page_count};
+ghost use Rattle.roll.specs.Rolls.{bytes_of};
 ghost use Rattle.report.specs.Lines.{line_of};
-ghost use Rattle.report.specs.Reports.{PageBlock, PagesWritten, number_line, Reports};
+ghost use Rattle.report.specs.Reports.{PageBlock, PagesWritten, number_line, Opens, Reports};
 
 use forms::{PageText, page_text};
-use pages::Page;
+use pages::{Page, RollFault, RollTold};
 use roll::Roll;
 use std::alloc::{AllocError, Global};
 
@@ -19,14 +19,16 @@ pub const LONGEST_INPUT: usize = 65_536;
 pub fn line(heap: Global, number: u32, page: &PageText) -> Result<String, AllocError>
     ensures { IfOk result (λ s. string_bytes s ≡ line_of number page.now.form page.now.characters page.now.outcome) }
 {
-    let form = page.form;
+    let form = page.form.map_or(0, u8::from);
     let characters = page.characters;
     match page.outcome {
         Ok(()) => format!(in heap; "{number} {form} {characters} ok"),
         Err(fault) => {
-            let told = fault.told();
-            let refusal = told.number;
-            let offset = told.offset;
+            let RollTold {
+                number: refusal,
+                offset,
+                ..
+            } = fault.told();
             format!(in heap; "{number} {form} {characters} {refusal}@{offset}")
         }
     }
@@ -49,39 +51,37 @@ pub fn block(heap: Global, number: u32, page: &Page) -> Result<Vec<u8>, AllocErr
 fn number_line(heap: Global, number: u8) -> Result<Vec<u8>, AllocError>
     ensures { IfOk result (λ out. out.items ≡ number_line number) }
 {
-    let digits = format!(in heap; "{number}")?;
-    let mut out = Vec::new(heap);
-    out.extend_from_slice(digits.as_bytes())?;
-    out.push(b'\n')?;
-    Ok(out)
+    let line = format!(in heap; "{number}\n")?;
+    Ok(line.into_bytes())
 }
 
 // The blocks of all pages.
 fn blocks(heap: Global, roll: &Roll) -> Result<Vec<u8>, AllocError>
-    requires { Opened roll.now.bytes.now roll.now }
-    ensures { IfOk result (λ out. PagesWritten roll.now.bytes.now (page_count roll.now.bytes.now) out.items) }
+    ensures { IfOk result (λ out. PagesWritten (bytes_of roll.now) (page_count (bytes_of roll.now)) out.items) }
 {
     let mut out = Vec::new(heap);
-    for place in 0..roll.count() {
-        match roll.page(place + 1) {
-            Ok(page) => {
-                let block = block(heap, place as u32 + 1, &page)?;
-                out.extend_from_slice(&block)?;
-            }
-            Err(_) => unreachable(),
-        }
+    for (number, page) in roll.pages() {
+        let block = block(heap, number as u32, &page)?;
+        out.extend_from_slice(&block)?;
     }
     Ok(out)
+}
+
+// An input as a roll; one that is too long for a report is refused as a roll of the wrong size is.
+fn opened(input: &[u8]) -> Result<Roll<'_>, RollFault>
+    ensures { Opens input.now result }
+{
+    if input.len() > LONGEST_INPUT {
+        return Err(RollFault::WrongSize);
+    }
+    Roll::open(input)
 }
 
 // What is written of an input.
 pub fn report(heap: Global, input: &[u8]) -> Result<Vec<u8>, AllocError>
     ensures { IfOk result (λ out. Reports input.now out.items) }
 {
-    if input.len() > LONGEST_INPUT {
-        return number_line(heap, 14);
-    }
-    match Roll::open(input) {
+    match opened(input) {
         Ok(roll) => blocks(heap, &roll),
         Err(fault) => number_line(heap, fault.told().number),
     }

@@ -1,14 +1,8 @@
 -- Pages that follow one another without a gap. Assumes nothing.
-use Rattle.std.proofs.Common.{◌≡◌, ℕ, zero, suc, ◌+◌, ◌*◌, ◌<◌, ◌≤◌, true, eqb, leb, List, ◌++◌, take, Some, None, sym, refl, ap, ◌∙◌, subst, inl, inr, add-one, arith, take-add, below_more}
+use Rattle.std.proofs.Common.{◌≡◌, ℕ, zero, suc, ◌+◌, ◌<◌, ◌≤◌, true, false, eqb, leb, List, ◌++◌, take, sym, refl, ap, ◌∙◌, subst, inl, inr, add-one, arith, take-add}
 use Rattle.std.proofs.lemmas.Bool.{cases_lt, and_parts, eqb-true, eq-eqb, leb-true, cond-true}
 use Rattle.roll.specs.Format.{index_offset, page_count, offset, size, form, padded, starts, entry_holds, sizes, NoPagesNoBytes, Entries, page_bytes, joined}
-use Rattle.roll.specs.Entries.{holds_at, end_at, Ends}
 use Rattle.roll.specs.Opened.{FirstBad}
-
--- the rules of an entry, with the trailer's numbers for those given
-pub holds_same : (b : List ℕ) (index count k start : ℕ) → index ≡ index_offset b → count ≡ page_count b → start ≡ starts b k → holds_at b index count k start ≡ entry_holds b k
-holds_same b index count k start i n s =
-    ap (λ z. holds_at b z count k start) i ∙ (ap (λ z. holds_at b (index_offset b) z k start) n ∙ ap (λ z. holds_at b (index_offset b) (page_count b) k z) s)
 
 -- what an entry that keeps the rules says
 pub holds_start : (b : List ℕ) (k : ℕ) → entry_holds b k ≡ true → offset b k ≡ starts b k
@@ -46,15 +40,9 @@ starts_last b (suc n) e none h = holds_last b n (h n (omega arith)) (add-one n �
 pub covers : (b : List ℕ) → NoPagesNoBytes b → Entries b → joined b (page_count b) ≡ take (index_offset b) b
 covers b none h = joined_take b (page_count b) h ∙ ap (λ z. take z b) (starts_last b (page_count b) refl none h)
 
--- one entry more, in the order of the index
-module _ (b : List ℕ) (index count k start : ℕ) (i : index ≡ index_offset b) (n : count ≡ page_count b) (l : k < count) (s : start ≡ starts b k) (h : HoldBelow b k) where
-  pub first_bad : Ends b index count k start None → FirstBad b (k + 1)
-  first_bad e = subst (FirstBad b) (sym (add-one k)) (omega arith, h, sym (holds_same b index count k start i n s) ∙ e)
-
-  pub one_more : (end : ℕ) → Ends b index count k start (Some end) → (end ≡ starts b (k + 1)) × HoldBelow b (k + 1)
-  one_more end e =
-      let at : end_at b (index + 12 * k) ≡ starts b (suc k) = ap (λ z. end_at b (z + 12 * k)) i in
-      (e.1 ∙ (at ∙ ap (starts b) (sym (add-one k))), below_more _ k h (sym (holds_same b index count k start i n s) ∙ e.0))
+-- the first entry that breaks a rule
+pub first_bad : (b : List ℕ) (k : ℕ) → k < page_count b → HoldBelow b k → entry_holds b k ≡ false → FirstBad b (k + 1)
+first_bad b k l h e = subst (FirstBad b) (sym (add-one k)) (omega arith, h, e)
 
 -- the end of the index
 pub sums : (b : List ℕ) (k end : ℕ) → k ≡ page_count b → end ≡ starts b k → HoldBelow b k → Entries b × (end ≡ sizes b (page_count b))

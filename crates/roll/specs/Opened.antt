@@ -2,7 +2,6 @@
 use Rattle.std.specs.Prelude.{◌≡◌, ℕ, zero, suc, ◌<◌, true, false, List, take, Ok, Err, Result, ◌≢◌}
 use Rattle.pages.specs.declared.fault.RollFault.{RollFault}
 use Rattle.pages.specs.declared.fault.RollFault.TheVariants.{WrongSize, NoMark, WrongIndex, BadEntry, WrongTotal, NoSuchPage, Faulted}
-use Rattle.roll.specs.declared.Roll.{Roll}
 use Rattle.roll.specs.Format.{index_offset, page_count, entry_holds, sizes, Sized, Marked, Indexed, NoPagesNoBytes, Entries, Totalled, joined}
 
 -- the first entry, from 1, that breaks a rule; 0 where there are no pages and the index does not begin at 0
@@ -40,10 +39,3 @@ pub record Accepted (b : List ℕ) : Type 0 where
   pub entries : Entries b
   pub totalled : Totalled b
   pub covered : joined b (page_count b) ≡ take (index_offset b) b
-
--- what is kept of a roll that keeps every rule
-pub record Opened (b : List ℕ) (roll : Roll) : Type 0 where
-  pub same : roll.bytes.now ≡ b
-  pub index_is : roll.index ≡ index_offset b
-  pub count_is : roll.count ≡ page_count b
-  pub accepted : Accepted b

@@ -1,27 +1,11 @@
 -- Which part of a roll a page is. Assumes nothing.
-use Rattle.std.specs.Prelude.{◌≡◌, ℕ, ◌+◌, ◌-◌, ◌<◌, ◌≤◌, ◌⊎◌, List, length, take, drop, Some, None, Ok, Err, Option, Result, slice_index}
+use Rattle.std.specs.Prelude.{◌≡◌, ℕ, ◌-◌, ◌<◌, ◌≤◌, ◌⊎◌, List, Ok, Err, Result}
 use Rattle.pages.specs.declared.fault.RollFault.{RollFault}
 use Rattle.pages.specs.declared.fault.RollFault.TheVariants.{WrongSize, NoMark, WrongIndex, BadEntry, WrongTotal, NoSuchPage, Faulted}
-use Rattle.pages.specs.declared.page.Form.{Form}
 use Rattle.pages.specs.declared.page.Page.{Page}
 use Rattle.pages.specs.declared.page.Page.TheVariants.{Text, Picture}
 use Rattle.pages.specs.Forms.{form_number}
-use Rattle.roll.specs.Format.{word, page_count, offset, form, page_bytes}
-
--- the form that a byte stands for
-abbrev pub FormOf : ℕ → Option Form → Type 0
-FormOf n None = (n ≡ 0) ⊎ (7 < n)
-FormOf n (Some f) = n ≡ form_number f
-
--- the page is the part of the roll that an entry, by where it begins, tells
-abbrev pub ToldBy : List ℕ → ℕ → Page → Type 0
-ToldBy b e (Text f part at) = (slice_index b (e + 8) ≡ form_number f) × (part.now ≡ take (word b (e + 4)) (drop (word b e) b)) × (at ≡ word b e)
-ToldBy b e (Picture part at) = (slice_index b (e + 8) ≡ 0) × (part.now ≡ take (word b (e + 4)) (drop (word b e) b)) × (at ≡ word b e)
-
--- no page only where the entry or the page does not fit, or the form is none of the eight
-abbrev pub Found : List ℕ → ℕ → Option Page → Type 0
-Found b e (Some p) = ToldBy b e p
-Found b e None = e + 12 ≤ length b → word b e + word b (e + 4) ≤ length b → slice_index b (e + 8) ≤ 7 → ⊥
+use Rattle.roll.specs.Format.{page_count, offset, form, page_bytes}
 
 -- the page is the part of the roll that its entry, the k-th from 0, tells, with its offset
 abbrev pub PartAt : List ℕ → ℕ → Page → Type 0

@@ -30,10 +30,7 @@ fn shows(
 
 // The answer where a roll is refused; a roll that is not has no such answer.
 fn refused(input: &[u8]) -> Option<RollFault> {
-    match Roll::open(input) {
-        Ok(_) => None,
-        Err(fault) => Some(fault),
-    }
+    Roll::open(input).err()
 }
 
 #[test]
@@ -66,11 +63,9 @@ fn eight_forms(rt: HostRuntime) -> Result<(), Fail> {
         .with_page(4, b"\xE9")?;
     let builder = builder.with_page(5, b"\xE9")?.with_page(6, b"\xC3\xA9")?;
     let roll = builder.with_page(7, b"e")?.finish()?;
-    let out = report(rt.alloc(), &roll)?;
     let expected =
         b"\n1 0 0 ok\n\xC3\xA9\n2 1 1 ok\n\xC3\xA9\n3 2 1 ok\n\xC3\xA9\n4 3 1 ok\n\xC3\xA9\n5 4 1 ok\n\xC3\xA9\n6 5 1 ok\n\xC3\xA9\n7 6 1 ok\ne\n8 7 1 ok\n";
-    assert!(rt; out.as_slice() == expected.as_slice());
-    Ok(())
+    writes(&rt, &roll, expected)
 }
 
 // The longest roll that `report` reads, and the last entry of two broken.
@@ -167,16 +162,13 @@ fn index_and_entries(rt: HostRuntime) -> Result<(), Fail> {
 #[test]
 fn pages_by_number(rt: HostRuntime) -> Result<(), Fail> {
     let bytes = b"a\0\0\0\0\0\0\0\x01\x01\0\0\0\0\0\0\x01\0\0\0\x01\0\0\0\x01ROLL";
-    match Roll::open(bytes) {
-        Ok(roll) => {
-            assert_eq!(rt; roll.count(), 1);
-            assert!(rt; roll.page(0).is_err());
-            assert!(rt; roll.page(1).is_ok());
-            assert!(rt; roll.page(2).is_err());
-            Ok(())
-        }
-        Err(_) => Err(Fail::new("refused")),
-    }
+    let roll = Roll::open(bytes).map_err(|_| Fail::new("refused"))?;
+    assert_eq!(rt; roll.count(), 1);
+    assert!(rt; roll.page(0).is_err());
+    assert!(rt; roll.page(1).is_ok());
+    assert!(rt; roll.page(2).is_err());
+    assert_eq!(rt; roll.pages().count(), 1);
+    Ok(())
 }
 
 // 1,024 pages are a roll, and one more is not.
@@ -194,10 +186,7 @@ fn most_pages(rt: HostRuntime) -> Result<(), Fail> {
     assert!(rt; more.len() == 12_316);
     more[12_306] = 4;
     more[12_307] = 1;
-    more[12_312] = b'R';
-    more[12_313] = b'O';
-    more[12_314] = b'L';
-    more[12_315] = b'L';
+    more[12_312..].copy_from_slice(b"ROLL");
     assert_eq!(rt; refused(&more), Some(RollFault::WrongIndex));
     Ok(())
 }

@@ -18,6 +18,10 @@ fn at(fault: Fault, offset: u64, done: Done) -> FaultAt {
     }
 }
 
+fn unread(cause: u8, depth: u8) -> Fault {
+    Fault::Unread(SetRefusal { cause, depth })
+}
+
 fn status(taken: u64, characters: u64, written: u64, held: usize, state: State) -> Status {
     Status {
         taken,
@@ -78,11 +82,7 @@ fn a_fault_over_two_sectors(rt: HostRuntime) -> Result<(), Fail> {
     let mut transcript = Transcript::new(Iso6937, Utf8);
     let mut output = [0u8; 8];
     assert_eq!(rt; transcript.offer(b"ab\xC2", &mut output), Ok(done(3, 2)));
-    let refusal = SetRefusal {
-        cause: 32,
-        depth: 0,
-    };
-    let fault = at(Fault::Unread(refusal), 2, done(0, 0));
+    let fault = at(unread(32, 0), 2, done(0, 0));
     assert_eq!(rt;
         transcript.offer(b"b", &mut output),
         Err(Refusal::Faulted(fault))
@@ -173,11 +173,7 @@ fn refusals_by_state(rt: HostRuntime) -> Result<(), Fail> {
     assert_eq!(rt; transcript.close(), Err(Refusal::AlreadyClosed));
     assert_eq!(rt; transcript.status(), status(0, 0, 0, 0, State::Closed));
     transcript.start();
-    let refusal = SetRefusal {
-        cause: 31,
-        depth: 0,
-    };
-    let fault = at(Fault::Unread(refusal), 1, done(1, 1));
+    let fault = at(unread(31, 0), 1, done(1, 1));
     assert_eq!(rt;
         transcript.offer(b"a\xE5", &mut output[0..9]),
         Err(Refusal::Faulted(fault))
@@ -198,11 +194,7 @@ fn refusals_by_state(rt: HostRuntime) -> Result<(), Fail> {
 
 #[test]
 fn numbers(rt: HostRuntime) -> Result<(), Fail> {
-    let refusal = SetRefusal {
-        cause: 35,
-        depth: 1,
-    };
-    let fault = at(Fault::Unread(refusal), 6, done(4, 5));
+    let fault = at(unread(35, 1), 6, done(4, 5));
     let told = Refusal::Standing(fault).told();
     assert!(rt; told.number == 4 && told.standing == 6 && told.offset == 6 && told.cause == 35);
     assert!(rt; told.depth == 1 && told.character == 0 && told.taken == 4 && told.written == 5);

@@ -1,16 +1,21 @@
-use Rattle.std.proofs.Common.{◌≡◌, ℕ, ◌+◌, ◌-◌, List, ◌++◌, Ok, vec_items, sym, subst, add-one, arith, rules}
+use Rattle.std.proofs.Common.{◌≡◌, ℕ, ◌+◌, List, ◌++◌, vec_items, sym, ◌∙◌, subst, add-one, rules}
 use Rattle.pages.specs.declared.page.Page.{Page}
-use Rattle.roll.specs.Pages.{PartAt, PageAt}
+use Rattle.roll.specs.Pages.{PartAt}
+use Rattle.roll.specs.Rolls.{bytes_of}
 use Rattle.report.specs.Reports.{PageBlock, PagesWritten}
 use Rattle.report.proofs.blocks.Goals as goal
 
-one_more : (b : List ℕ) (k : ℕ) (front block out : List ℕ) (page : Page) → PagesWritten b k front → PageAt b (k + 1) (Ok page) → PageBlock (k + 1) page block → out ≡ front ++ block → PagesWritten b (k + 1) out
-one_more b k front block out page h p w e =
-    let place : k + 1 - 1 ≡ k = omega arith in
-    subst (λ n. PagesWritten b n out) (sym (add-one k)) (front, block, h, (page, subst (λ n. PartAt b n page) place p.2, w), e)
+one_more : (b : List ℕ) (k n m : ℕ) (front block out : List ℕ) (page : Page) → PagesWritten b k front → PartAt b k page → PageBlock n page block → out ≡ front ++ block → m ≡ k + 1 → n ≡ m → PagesWritten b m out
+one_more b k n m front block out page h p w e i j =
+    subst (λ z. PagesWritten b z out) (sym (i ∙ add-one k)) (front, block, h, (page, p, subst (λ z. PageBlock z page block) (j ∙ i) w), e)
 
-pub loop-place-preserved : goal.loop-place-preserved
-loop-place-preserved c =
-    let longer : vec_items c.extend_from_slice.new.self ≡ vec_items c.loop-place.out ++ vec_items c.in_ok-block-in-Ok.block = search rules in
-    one_more c.args.roll.now.bytes.now c.loop-place.place (vec_items c.loop-place.out) (vec_items c.in_ok-block-in-Ok.block) (vec_items c.extend_from_slice.new.self) c.in-Ok.page c.loop-place.invariant
-    (c.in-Ok.ensures c.requires) c.in_ok-block-in-Ok.ensures longer
+pub loop-number-preserved : goal.loop-number-preserved
+loop-number-preserved c =
+    let longer : vec_items c.extend_from_slice.new.self ≡ vec_items c.loop-number.out ++ vec_items c.in_ok-block.block = search rules in
+    let l = c.loop-number in
+    let s = c.in-Some.ensures.steps in
+    let same = l.invariant.0 in (
+      s.0 ∙ same,
+      one_more (bytes_of c.args.roll.now) l.number-iterator.past c.in-Some.number c.next.new.self.past (vec_items l.out) (vec_items c.in_ok-block.block) (vec_items c.extend_from_slice.new.self) c.in-Some.page
+          l.invariant.1 (subst (λ b. PartAt b l.number-iterator.past c.in-Some.page) same s.1.3) c.in_ok-block.ensures longer s.1.1 s.1.2,
+    )

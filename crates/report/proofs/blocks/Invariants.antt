@@ -1,6 +1,8 @@
-use Rattle.std.proofs.Common.{vec_items}
+use Rattle.std.proofs.Common.{◌≡◌, vec_items}
+use Rattle.roll.specs.EachPage.{source}
+use Rattle.roll.specs.Rolls.{bytes_of}
 use Rattle.report.specs.Reports.{PagesWritten}
 use Rattle.report.proofs.blocks.Given as goal
 
-abbrev pub invariant-loop-place : goal.invariant-loop-place
-invariant-loop-place l = PagesWritten l.roll.bytes.now l.place (vec_items l.out)
+abbrev pub invariant-loop-number : goal.invariant-loop-number
+invariant-loop-number l = (source l.number-iterator ≡ bytes_of l.roll) × PagesWritten (bytes_of l.roll) l.number-iterator.past (vec_items l.out)

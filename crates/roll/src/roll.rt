@@ -1,0 +1,90 @@
+// A roll, opened.
+ghost use Rattle.std.specs.Prelude.{◌≡◌, MatchResult};
+ghost use Rattle.roll.specs.Format.{page_count};
+ghost use Rattle.roll.specs.Opened.{Accepted, Refuses};
+ghost use Rattle.std.proofs.Props.{props};
+
+use crate::each_page::Pages;
+use crate::index::{Index, word_at};
+use crate::{LARGEST_ROLL, MOST_PAGES, SMALLEST_ROLL};
+use pages::{Form, Page, RollFault};
+
+// The letters ROLL.
+const MARK: u32 = 0x524F_4C4C;
+
+// A roll that keeps every rule of the format.
+#[derive(Clone, Copy)]
+pub struct Roll<'a> {
+    index: Index<'a>,
+    pub ghost accepted: { Accepted index.bytes.now } by { Prim.hlevel props },
+}
+
+impl<'a> Roll<'a> {
+    ghost use Rattle.roll.specs.Pages.{PageAt};
+    ghost use Rattle.roll.specs.Rolls.{bytes_of};
+    ghost use Rattle.roll.specs.EachPage.{source};
+
+    // Checks every rule, in the order of their numbers.
+    pub fn open(bytes: &'a [u8]) -> Result<Roll<'a>, RollFault>
+        ensures { MatchResult result (λ roll. (bytes_of roll ≡ bytes.now) × Accepted bytes.now) (λ e. Refuses bytes.now e) }
+    {
+        let len = bytes.len();
+        if len < SMALLEST_ROLL || len > LARGEST_ROLL {
+            return Err(RollFault::WrongSize);
+        }
+        if word_at(bytes, len - 4) != MARK {
+            return Err(RollFault::NoMark);
+        }
+        let start = word_at(bytes, len - 16) as usize;
+        let count = word_at(bytes, len - 12) as usize;
+        if count > MOST_PAGES || start + 12 * count + 16 != len {
+            return Err(RollFault::WrongIndex);
+        }
+        let index = Index {
+            bytes,
+            start,
+            count,
+        };
+        let total = index.checked_total()?;
+        if word_at(bytes, len - 8) as usize != total {
+            return Err(RollFault::WrongTotal);
+        }
+        Ok(Roll { index })
+    }
+
+    // How many pages it has.
+    pub fn count(&self) -> usize
+        ensures { result ≡ page_count (bytes_of self.now) }
+    {
+        self.index.count
+    }
+
+    // A page by its number, from 1.
+    #[tactic(auto, using(crate::proofs::Inside::page_inside))]
+    pub fn page(&self, number: usize) -> Result<Page<'a>, RollFault>
+        ensures { PageAt (bytes_of self.now) number result }
+    {
+        if number == 0 || number > self.index.count {
+            return Err(RollFault::NoSuchPage);
+        }
+        let entry = self.index.entry(number - 1);
+        let offset = entry.offset;
+        let part = &self.index.bytes[offset..entry.end];
+        // Each of the eight forms but a picture's is one of text.
+        Ok(match Form::try_from(entry.form) {
+            Ok(form) => Page::Text { form, part, offset },
+            Err(_) => Page::Picture { part, offset },
+        })
+    }
+
+    // All its pages, from the first.
+    pub fn pages(&self) -> Pages<'a>
+        ensures from_here { source result ≡ bytes_of self.now }
+        ensures first { result.past ≡ 0 }
+    {
+        Pages {
+            roll: *self,
+            past: 0,
+        }
+    }
+}
