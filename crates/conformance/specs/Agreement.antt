@@ -1,10 +1,14 @@
 -- What an answer says. Assumes nothing.
-use Rattle.std.specs.Prelude.{◌≡◌, ℕ, Bool, true, false, List, Ok, Err, Result}
+use Rattle.std.specs.Prelude.{◌≡◌, ℕ, Bool, true, false, ◌-◌, ◌/◌, List, length, drop, Some, None, Option, Ok, Err, Result}
+use Rattle.std.specs.Int.{to_be_bytes, w32}
 use Rattle.charset.specs.declared.SetRefusal.{SetRefusal}
 use Rattle.charset.specs.declared.Reading.{Reading}
 use Rattle.charset.specs.declared.Reading.TheVariants.{Found, Open}
 use Rattle.charset.specs.Meaning.{Meaning}
-use Rattle.charset.specs.Answers.{Reads}
+use Rattle.charset.specs.Answers.{Reads, Writes}
+use Rattle.conformance.specs.Numbers.{number_of}
+use Rattle.conformance.specs.declared.vector.Question.{Question}
+use Rattle.conformance.specs.declared.vector.Question.TheVariants as question
 use Rattle.conformance.specs.declared.answer.Answer.{Answer}
 use Rattle.conformance.specs.declared.answer.Answer.TheVariants as answer
 
@@ -12,6 +16,10 @@ abbrev pub told_reading : Result Reading SetRefusal → Answer
 told_reading (Ok (Found c n)) = answer.Character c n
 told_reading (Ok Open) = answer.Open
 told_reading (Err q) = answer.Refused q.cause
+
+abbrev pub told_coding : Option (List ℕ) → Answer
+told_coding None = answer.NoCoding
+told_coding (Some c) = answer.Bytes (number_of c) (length c)
 
 abbrev pub is_refusal : Answer → Bool
 is_refusal (answer.Character c n) = false
@@ -23,3 +31,16 @@ is_refusal answer.NoCoding = false
 -- r tells what reading s answers
 abbrev pub TellsReading : Meaning → List ℕ → Answer → Type 0
 TellsReading m s r = (a : Result Reading SetRefusal) × Reads m s a × (r ≡ told_reading a)
+
+-- r tells what writing n answers
+abbrev pub TellsWriting : Meaning → ℕ → Answer → Type 0
+TellsWriting m n r = (a : Option (List ℕ)) × Writes m n a × (r ≡ told_coding a)
+
+-- the string of so many hexadecimal digits, or of eight, that a number stands for
+abbrev pub string_of : (width number : ℕ) → List ℕ
+string_of width n = drop (4 - width / 2) (to_be_bytes w32 n)
+
+-- r tells what is answered to a question put to n
+abbrev pub Tells : Meaning → Question → ℕ → Answer → Type 0
+Tells m (question.Read width) n r = TellsReading m (string_of width n) r
+Tells m question.Write n r = TellsWriting m n r

@@ -1,11 +1,13 @@
 -- When a difference is of a known kind. Assumes nothing.
-use Rattle.std.specs.Prelude.{◌≡◌, ℕ, ◌/◌, ◌≤◌, Bool, true, false, cond, ◌&&◌, ◌||◌, ◌⊎◌, ◌≢◌, nat_le, nat_lt}
+use Rattle.std.specs.Prelude.{◌≡◌, ℕ, ◌/◌, ◌≤◌, Bool, true, cond, ◌&&◌, ◌||◌, ◌⊎◌, ◌≢◌, nat_le, nat_lt, Some, None, Option}
 use Rattle.conformance.specs.declared.answer.Answer.{Answer}
 use Rattle.conformance.specs.declared.answer.Answer.TheVariants as answer
 use Rattle.conformance.specs.declared.known.Known.{Known}
 use Rattle.conformance.specs.declared.known.Known.TheVariants as known
 use Rattle.conformance.specs.declared.vector.Set.{Set}
 use Rattle.conformance.specs.declared.vector.Set.TheVariants as set
+use Rattle.conformance.specs.declared.vector.Question.{Question}
+use Rattle.conformance.specs.declared.vector.Question.TheVariants as question
 use Rattle.conformance.specs.declared.vector.Vector.{Vector}
 use Rattle.conformance.specs.Agreement.{is_refusal}
 
@@ -24,15 +26,15 @@ IsControl c b = (c ≡ b) × (control_position b ≡ true)
 abbrev pub IsWindow : Set → ℕ → ℕ → Type 0
 IsWindow s c b = (s ≡ set.Sami) × (control_position b ≡ true) × (c ≢ b)
 
-abbrev pub Beyond : Set → ℕ → ℕ → Known → Type 0
-Beyond s c b known.Control = IsControl c b
-Beyond s c b known.Window = IsWindow s c b
-Beyond s c b known.Unknown = (IsControl c b → ⊥) × (IsWindow s c b → ⊥)
-Beyond s c b known.Bar = ⊥
-Beyond s c b known.Stroke = ⊥
-Beyond s c b known.SmallG = ⊥
-Beyond s c b known.Waits = ⊥
-Beyond s c b known.Tags = ⊥
+abbrev pub Beyond : Set → ℕ → ℕ → Option Known → Type 0
+Beyond s c b (Some known.Control) = IsControl c b
+Beyond s c b (Some known.Window) = IsWindow s c b
+Beyond s c b None = (IsControl c b → ⊥) × (IsWindow s c b → ⊥)
+Beyond s c b (Some known.Bar) = ⊥
+Beyond s c b (Some known.Stroke) = ⊥
+Beyond s c b (Some known.SmallG) = ⊥
+Beyond s c b (Some known.Waits) = ⊥
+Beyond s c b (Some known.Tags) = ⊥
 
 -- their answer and ours to a string of ISO/IEC 6937
 abbrev pub IsBar : Answer → Answer → Type 0
@@ -44,15 +46,15 @@ IsStroke theirs ours = (theirs ≡ answer.Character 0xd0 1) × (ours ≡ answer.
 abbrev pub IsSmallG : Answer → Answer → Type 0
 IsSmallG theirs ours = ((is_refusal theirs ≡ true) × (ours ≡ answer.Character 0x123 2)) ⊎ ((theirs ≡ answer.Character 0x123 2) × (ours ≡ answer.Refused 32))
 
-abbrev pub ApartIn6937 : Answer → Answer → Known → Type 0
-ApartIn6937 theirs ours known.Bar = IsBar theirs ours
-ApartIn6937 theirs ours known.Stroke = IsStroke theirs ours
-ApartIn6937 theirs ours known.SmallG = IsSmallG theirs ours
-ApartIn6937 theirs ours known.Unknown = (IsBar theirs ours → ⊥) × (IsStroke theirs ours → ⊥) × (IsSmallG theirs ours → ⊥)
-ApartIn6937 theirs ours known.Control = ⊥
-ApartIn6937 theirs ours known.Window = ⊥
-ApartIn6937 theirs ours known.Waits = ⊥
-ApartIn6937 theirs ours known.Tags = ⊥
+abbrev pub ApartIn6937 : Answer → Answer → Option Known → Type 0
+ApartIn6937 theirs ours (Some known.Bar) = IsBar theirs ours
+ApartIn6937 theirs ours (Some known.Stroke) = IsStroke theirs ours
+ApartIn6937 theirs ours (Some known.SmallG) = IsSmallG theirs ours
+ApartIn6937 theirs ours None = (IsBar theirs ours → ⊥) × (IsStroke theirs ours → ⊥) × (IsSmallG theirs ours → ⊥)
+ApartIn6937 theirs ours (Some known.Control) = ⊥
+ApartIn6937 theirs ours (Some known.Window) = ⊥
+ApartIn6937 theirs ours (Some known.Waits) = ⊥
+ApartIn6937 theirs ours (Some known.Tags) = ⊥
 
 -- in reading, a string whose first byte is b
 abbrev pub Waits : Answer → Answer → Type 0
@@ -61,15 +63,15 @@ Waits theirs ours = (theirs ≡ answer.Open) × (is_refusal ours ≡ true)
 abbrev pub ReadsBeyond : Set → Answer → Answer → (ℕ → Type 0) → Type 0
 ReadsBeyond s theirs ours Kind = (s ≢ set.Utf8) × ((c : ℕ) × (theirs ≡ answer.Character c 1) × (ours ≡ answer.Refused 31) × Kind c)
 
-abbrev pub ApartInReading : Set → ℕ → Answer → Answer → Known → Type 0
-ApartInReading s b theirs ours known.Waits = Waits theirs ours
-ApartInReading s b theirs ours known.Control = ReadsBeyond s theirs ours (λ c. IsControl c b)
-ApartInReading s b theirs ours known.Window = ReadsBeyond s theirs ours (λ c. IsWindow s c b)
-ApartInReading s b theirs ours known.Bar = (s ≡ set.Iso6937) × IsBar theirs ours
-ApartInReading s b theirs ours known.Stroke = (s ≡ set.Iso6937) × IsStroke theirs ours
-ApartInReading s b theirs ours known.SmallG = (s ≡ set.Iso6937) × IsSmallG theirs ours
-ApartInReading s b theirs ours known.Tags = ⊥
-ApartInReading s b theirs ours known.Unknown = (Waits theirs ours → ⊥) × (ReadsBeyond s theirs ours (λ c. IsControl c b) → ⊥) × (ReadsBeyond s theirs ours (λ c. IsWindow s c b) → ⊥) × (s ≡ set.Iso6937 → (IsBar theirs ours → ⊥) × (IsStroke theirs ours → ⊥) × (IsSmallG theirs ours → ⊥))
+abbrev pub ApartInReading : Set → ℕ → Answer → Answer → Option Known → Type 0
+ApartInReading s b theirs ours (Some known.Waits) = Waits theirs ours
+ApartInReading s b theirs ours (Some known.Control) = ReadsBeyond s theirs ours (λ c. IsControl c b)
+ApartInReading s b theirs ours (Some known.Window) = ReadsBeyond s theirs ours (λ c. IsWindow s c b)
+ApartInReading s b theirs ours (Some known.Bar) = (s ≡ set.Iso6937) × IsBar theirs ours
+ApartInReading s b theirs ours (Some known.Stroke) = (s ≡ set.Iso6937) × IsStroke theirs ours
+ApartInReading s b theirs ours (Some known.SmallG) = (s ≡ set.Iso6937) × IsSmallG theirs ours
+ApartInReading s b theirs ours (Some known.Tags) = ⊥
+ApartInReading s b theirs ours None = (Waits theirs ours → ⊥) × (ReadsBeyond s theirs ours (λ c. IsControl c b) → ⊥) × (ReadsBeyond s theirs ours (λ c. IsWindow s c b) → ⊥) × (s ≡ set.Iso6937 → (IsBar theirs ours → ⊥) × (IsStroke theirs ours → ⊥) × (IsSmallG theirs ours → ⊥))
 
 -- in writing n
 abbrev pub IsTag : Set → ℕ → Answer → Type 0
@@ -78,16 +80,21 @@ IsTag s n theirs = (s ≢ set.Utf8) × (0xe0000 ≤ n) × (n ≤ 0xe007f) × (th
 abbrev pub WritesBeyond : Set → Answer → (ℕ → Type 0) → Type 0
 WritesBeyond s theirs Kind = (s ≢ set.Utf8) × ((b : ℕ) × (theirs ≡ answer.Bytes b 1) × Kind b)
 
-abbrev pub ApartInWriting : Set → ℕ → Answer → Known → Type 0
-ApartInWriting s n theirs known.Tags = IsTag s n theirs
-ApartInWriting s n theirs known.Control = WritesBeyond s theirs (λ b. IsControl n b)
-ApartInWriting s n theirs known.Window = WritesBeyond s theirs (λ b. IsWindow s n b)
-ApartInWriting s n theirs known.Bar = (s ≡ set.Iso6937) × ((n ≡ 0x2014) ⊎ (n ≡ 0x2015))
-ApartInWriting s n theirs known.Stroke = (s ≡ set.Iso6937) × ((n ≡ 0xd0) ⊎ (n ≡ 0x110))
-ApartInWriting s n theirs known.SmallG = (s ≡ set.Iso6937) × (n ≡ 0x123)
-ApartInWriting s n theirs known.Waits = ⊥
-ApartInWriting s n theirs known.Unknown = (IsTag s n theirs → ⊥) × (WritesBeyond s theirs (λ b. IsControl n b) → ⊥) × (WritesBeyond s theirs (λ b. IsWindow s n b) → ⊥) × (s ≡ set.Iso6937 → (n ≢ 0x2014) × (n ≢ 0x2015) × (n ≢ 0xd0) × (n ≢ 0x110) × (n ≢ 0x123))
+abbrev pub ApartInWriting : Set → ℕ → Answer → Option Known → Type 0
+ApartInWriting s n theirs (Some known.Tags) = IsTag s n theirs
+ApartInWriting s n theirs (Some known.Control) = WritesBeyond s theirs (λ b. IsControl n b)
+ApartInWriting s n theirs (Some known.Window) = WritesBeyond s theirs (λ b. IsWindow s n b)
+ApartInWriting s n theirs (Some known.Bar) = (s ≡ set.Iso6937) × ((n ≡ 0x2014) ⊎ (n ≡ 0x2015))
+ApartInWriting s n theirs (Some known.Stroke) = (s ≡ set.Iso6937) × ((n ≡ 0xd0) ⊎ (n ≡ 0x110))
+ApartInWriting s n theirs (Some known.SmallG) = (s ≡ set.Iso6937) × (n ≡ 0x123)
+ApartInWriting s n theirs (Some known.Waits) = ⊥
+ApartInWriting s n theirs None = (IsTag s n theirs → ⊥) × (WritesBeyond s theirs (λ b. IsControl n b) → ⊥) × (WritesBeyond s theirs (λ b. IsWindow s n b) → ⊥) × (s ≡ set.Iso6937 → (n ≢ 0x2014) × (n ≢ 0x2015) × (n ≢ 0xd0) × (n ≢ 0x110) × (n ≢ 0x123))
+
+-- a question put to n, their answer and ours
+abbrev pub ApartAt : Question → Set → ℕ → Answer → Answer → Option Known → Type 0
+ApartAt (question.Read width) s n theirs ours k = ApartInReading s (first_byte width n) theirs ours k
+ApartAt question.Write s n theirs ours k = ApartInWriting s n theirs k
 
 -- a question of a vector, reading or writing n, and our answer to it
-abbrev pub Apart : Vector → ℕ → Answer → Known → Type 0
-Apart v n ours k = (v.reads ≡ true → ApartInReading v.set (first_byte v.width n) v.answer ours k) × (v.reads ≡ false → ApartInWriting v.set n v.answer k)
+abbrev pub Apart : Vector → ℕ → Answer → Option Known → Type 0
+Apart v n ours k = ApartAt v.question v.set n v.answer ours k

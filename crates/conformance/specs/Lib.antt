@@ -1,3 +1,6 @@
 pub mod Agreement
 pub mod Differences
+pub mod Meanings
 pub mod Names
+pub mod Numbers
+pub mod Texts

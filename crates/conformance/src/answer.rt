@@ -1,6 +1,7 @@
 // What a set answers to a question, and whether two answers agree.
 ghost use Rattle.std.specs.Prelude.{◌≡◌, true, ◌⊎◌};
-ghost use Rattle.conformance.specs.Agreement.{told_reading, is_refusal};
+ghost use Rattle.conformance.specs.Agreement.{told_reading, told_coding, is_refusal};
+ghost use Rattle.conformance.specs.Numbers.{number_of};
 
 use charset::{Coding, Reading, SetRefusal};
 use std::fmt;
@@ -10,39 +11,50 @@ pub enum Answer {
     // A character's coding of so many bytes stands in front.
     Character(u32, usize),
     Open,
-    // By its cause; the other converter gives none.
+    // By its cause. The other converter gives none, which is 0 and no `None`: so the stored output prints it.
     Refused(u8),
     // The bytes of a coding as a number, and how many they are.
     Bytes(u32, usize),
     NoCoding,
 }
 
-impl Answer {
-    pub fn of_reading(reading: Result<Reading, SetRefusal>) -> Answer
-        ensures { result ≡ told_reading reading }
-    {
+impl From<Result<Reading, SetRefusal>> for Answer {
+    ghost from_gives = { λ reading answer. answer ≡ told_reading reading };
+
+    fn from(reading: Result<Reading, SetRefusal>) -> Answer {
         match reading {
-            Ok(front) => match front {
-                Reading::Found { character, length } => Answer::Character(character, length),
-                Reading::Open => Answer::Open,
-            },
+            Ok(Reading::Found { character, length }) => Answer::Character(character, length),
+            Ok(Reading::Open) => Answer::Open,
             Err(refusal) => Answer::Refused(refusal.cause),
         }
     }
+}
 
-    pub(crate) fn of_coding(coding: Option<Coding>) -> Answer {
+impl From<Option<Coding>> for Answer {
+    ghost from_gives = { λ coding answer. answer ≡ told_coding coding };
+
+    fn from(coding: Option<Coding>) -> Answer {
         match coding {
-            None => Answer::NoCoding,
             Some(coding) => {
-                let mut number = 0u32;
-                for byte in coding.as_bytes() {
-                    number = number.wrapping_mul(256).wrapping_add(u32::from(*byte));
-                }
-                Answer::Bytes(number, coding.as_bytes().len())
+                let bytes = coding.as_bytes();
+                Answer::Bytes(number_of(bytes), bytes.len())
             }
+            None => Answer::NoCoding,
         }
     }
+}
 
+// Bytes as a number, the highest first; of more than four the last.
+fn number_of(bytes: &[u8]) -> u32
+    ensures { result ≡ number_of bytes.now }
+{
+    bytes.iter().fold(
+        0u32,
+        |number, byte| number.wrapping_mul(256).wrapping_add(u32::from(*byte)),
+    )
+}
+
+impl Answer {
     // Two answers agree if they are the same, or both refusals: the other converter gives no cause.
     pub fn agrees(self, other: Answer) -> bool
         ensures same { self ≡ other → result ≡ true }
@@ -57,6 +69,12 @@ impl Answer {
 }
 
 impl fmt::Display for Answer {
+    ghost use Rattle.std.specs.Prelude.{Some};
+    ghost use Rattle.conformance.specs.Texts.{answer_text};
+
+    ghost output = { λ answer. Some (answer_text answer) };
+
+    #[tactic(auto, using(crate::proofs::Texts::padded_is_hex_of))]
     fn fmt<W: fmt::Write>(&self, f: &mut fmt::Formatter<W>) -> fmt::Result {
         match self {
             Answer::Character(character, length) => write!(f, "U+{character:04X} of {length}"),

@@ -1,9 +1,9 @@
 // The differences that are known and wanted: docs/CHARACTER-SETS.md says why each is right on our side.
 ghost use Rattle.std.specs.Prelude.{◌≡◌};
-ghost use Rattle.conformance.specs.Differences.{control_position, first_byte, Apart, ApartIn6937, ApartInReading, ApartInWriting, Beyond};
+ghost use Rattle.conformance.specs.Differences.{control_position, ApartIn6937, Beyond};
 
 use crate::answer::Answer;
-use crate::vector::{Set, Vector};
+use crate::vector::Set;
 use std::fmt;
 
 #[derive(Clone, Copy)]
@@ -22,99 +22,55 @@ pub enum Known {
     Waits,
     // It drops tag characters without a word.
     Tags,
-    Unknown,
 }
 
 impl fmt::Display for Known {
+    ghost use Rattle.std.specs.Prelude.{Some};
+    ghost use Rattle.conformance.specs.Names.{name_of_known};
+
+    ghost output = { λ known. Some (name_of_known known) };
+
     fn fmt<W: fmt::Write>(&self, f: &mut fmt::Formatter<W>) -> fmt::Result {
-        match self {
-            Known::Control => write!(f, "control"),
-            Known::Window => write!(f, "columns 8 and 9"),
-            Known::Bar => write!(f, "horizontal bar"),
-            Known::Stroke => write!(f, "d with stroke"),
-            Known::SmallG => write!(f, "small g"),
-            Known::Waits => write!(f, "waits"),
-            Known::Tags => write!(f, "tags"),
-            Known::Unknown => write!(f, "UNKNOWN"),
-        }
+        f.write_str(match self {
+            Known::Control => "control",
+            Known::Window => "columns 8 and 9",
+            Known::Bar => "horizontal bar",
+            Known::Stroke => "d with stroke",
+            Known::SmallG => "small g",
+            Known::Waits => "waits",
+            Known::Tags => "tags",
+        })
     }
 }
 
 fn is_control(number: u32) -> bool
     ensures { result ≡ control_position number }
 {
-    number < 0x20 || (number >= 0x7F && number < 0xA0)
+    number < 0x20 || (0x7F..0xA0).contains(&number)
 }
 
 // A character at a byte that is no position of ours.
-fn beyond(set: Set, character: u32, byte: u32) -> Known
+pub(crate) fn beyond(set: Set, character: u32, byte: u32) -> Option<Known>
     ensures { Beyond set character byte result }
 {
     if character == byte && is_control(byte) {
-        return Known::Control;
+        return Some(Known::Control);
     }
     match set {
-        Set::Sami if is_control(byte) => Known::Window,
-        _ => Known::Unknown,
-    }
-}
-
-// A difference in what a string is read as.
-fn in_reading(vector: &Vector, number: u32, ours: Answer) -> Known
-    ensures { ApartInReading vector.now.set (first_byte vector.now.width number) vector.now.answer ours result }
-{
-    let first = if vector.width > 2 {
-        number >> 8
-    } else {
-        number
-    };
-    match (vector.set, vector.answer, ours) {
-        (_, Answer::Open, Answer::Refused(_)) => Known::Waits,
-        (Set::Utf8, _, _) => Known::Unknown,
-        (_, Answer::Character(character, 1), Answer::Refused(31)) => beyond(
-            vector.set, character, first,
-        ),
-        (Set::Iso6937, _, _) => in_6937(vector.answer, ours),
-        _ => Known::Unknown,
+        Set::Sami if is_control(byte) => Some(Known::Window),
+        _ => None,
     }
 }
 
 // A difference in what a string of ISO/IEC 6937 is read as.
-fn in_6937(theirs: Answer, ours: Answer) -> Known
+pub(crate) fn in_6937(theirs: Answer, ours: Answer) -> Option<Known>
     ensures { ApartIn6937 theirs ours result }
 {
     match (theirs, ours) {
-        (Answer::Character(0x2014, 1), Answer::Character(0x2015, 1)) => Known::Bar,
-        (Answer::Character(0xD0, 1), Answer::Character(0x110, 1)) => Known::Stroke,
-        (Answer::Refused(_), Answer::Character(0x123, 2)) => Known::SmallG,
-        (Answer::Character(0x123, 2), Answer::Refused(32)) => Known::SmallG,
-        _ => Known::Unknown,
-    }
-}
-
-// A difference in how a character is written.
-fn in_writing(vector: &Vector, number: u32) -> Known
-    ensures { ApartInWriting vector.now.set number vector.now.answer result }
-{
-    match (vector.set, vector.answer, number) {
-        (Set::Utf8, _, _) => Known::Unknown,
-        (_, Answer::Bytes(0, 0), 0xE0000..=0xE007F) => Known::Tags,
-        (Set::Iso6937, _, 0x2014..=0x2015) => Known::Bar,
-        (Set::Iso6937, _, 0xD0) => Known::Stroke,
-        (Set::Iso6937, _, 0x110) => Known::Stroke,
-        (Set::Iso6937, _, 0x123) => Known::SmallG,
-        (_, Answer::Bytes(byte, 1), _) => beyond(vector.set, number, byte),
-        _ => Known::Unknown,
-    }
-}
-
-// The kind of a difference.
-pub(crate) fn why(vector: &Vector, number: u32, ours: Answer) -> Known
-    ensures { Apart vector.now number ours result }
-{
-    if vector.reads {
-        in_reading(vector, number, ours)
-    } else {
-        in_writing(vector, number)
+        (Answer::Character(0x2014, 1), Answer::Character(0x2015, 1)) => Some(Known::Bar),
+        (Answer::Character(0xD0, 1), Answer::Character(0x110, 1)) => Some(Known::Stroke),
+        (Answer::Refused(_), Answer::Character(0x123, 2)) => Some(Known::SmallG),
+        (Answer::Character(0x123, 2), Answer::Refused(32)) => Some(Known::SmallG),
+        _ => None,
     }
 }

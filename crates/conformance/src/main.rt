@@ -3,79 +3,67 @@
 
 mod answer;
 mod known;
+mod run;
 mod vector;
 
-use answer::Answer;
-use anyhow::anyhow;
-use known::why;
+use run::Run;
 use std::io::{BufRead, BufReader};
 use vector::Vector;
 
-#[derive(Clone, Copy)]
+// How many answers agree, and how many differ.
+#[derive(Clone, Copy, Default)]
 struct Count {
     agree: u64,
     differ: u64,
 }
 
-// Tells of a run of questions that had one answer.
-fn tell(rt: &HostRuntime, vector: &Vector, from: u32, to: u32, ours: Answer) -> anyhow::Result<()> {
-    if ours.agrees(vector.answer) {
-        return Ok(());
-    }
-    let theirs = vector.answer;
-    let set = vector.set.name();
-    let width = vector.width;
-    let known = why(vector, from, ours);
-    if vector.reads {
-        println!(rt;
-            "read {set} {from:0width$X}-{to:0width$X}: {ours}, converter {theirs} ({known})"
-        )?;
-    } else {
-        println!(rt; "write {set} U+{from:04X}-U+{to:04X}: {ours}, converter {theirs} ({known})")?;
-    }
-    Ok(())
-}
-
-fn hold(rt: &HostRuntime, vector: &Vector, count: Count) -> anyhow::Result<Count> {
-    let mut agree = count.agree;
-    let mut differ = count.differ;
-    let mut from = vector.from;
-    let mut ours = vector.ask(from);
-    for number in vector.from..=vector.to {
-        let next = vector.ask(number);
-        if next != ours {
-            tell(rt, vector, from, number.saturating_sub(1), ours)?;
-            from = number;
-            ours = next;
-        }
-        if next.agrees(vector.answer) {
-            agree = agree.saturating_add(1);
+impl Count {
+    // Counts a run, and prints it if it differs.
+    fn add(&mut self, rt: &HostRuntime, run: &Run) -> anyhow::Result<()> {
+        let questions = run.question_count();
+        if run.ours.agrees(run.vector.answer) {
+            self.agree = self.agree.saturating_add(questions);
         } else {
-            differ = differ.saturating_add(1);
+            println!(rt; "{run}")?;
+            self.differ = self.differ.saturating_add(questions);
         }
+        Ok(())
     }
-    tell(rt, vector, from, vector.to, ours)?;
-    Ok(Count { agree, differ })
+
+    // Puts the questions of a vector to our set. A loop: an iterator of runs would be a type more, with a law that it ends.
+    fn hold(&mut self, rt: &HostRuntime, vector: &Vector) -> anyhow::Result<()> {
+        let mut run = Run {
+            vector,
+            from: vector.from,
+            to: vector.to,
+            ours: vector.ask(vector.from),
+        };
+        for number in vector.from..=vector.to {
+            let ours = vector.ask(number);
+            if ours != run.ours {
+                let to = number.saturating_sub(1);
+                self.add(rt, &Run { to, ..run })?;
+                run = Run {
+                    from: number,
+                    ours,
+                    ..run
+                };
+            }
+        }
+        self.add(rt, &run)
+    }
 }
 
-fn run(rt: &HostRuntime) -> anyhow::Result<()> {
-    let mut count = Count {
-        agree: 0,
-        differ: 0,
-    };
+fn hold_all(rt: &HostRuntime) -> anyhow::Result<()> {
+    let mut count = Count::default();
     for line in BufReader::new(rt.alloc(), rt.stdin())?.lines(rt.alloc()) {
-        let line = line?;
-        let Some(vector) = Vector::parse(line.as_str()) else {
-            return Err(anyhow!("not a vector"));
-        };
-        count = hold(rt, &vector, count)?;
+        let vector = line?.as_str().parse::<Vector>()?;
+        count.hold(rt, &vector)?;
     }
-    let agree = count.agree;
-    let differ = count.differ;
-    println!(rt; "{agree} answers agree, {differ} differ")?;
+    println!(rt; "{} answers agree, {} differ", count.agree, count.differ)?;
     Ok(())
 }
 
 fn main(rt: HostRuntime) -> anyhow::Result<()> {
-    run(&rt)
+    hold_all(&rt)
 }

@@ -1,12 +1,15 @@
 // A vector: a question about a run of strings or numbers, and the other converter's answer.
-ghost use Rattle.std.specs.Prelude.{◌≡◌};
-ghost use Rattle.charset.specs.Meaning.{meaning};
-ghost use Rattle.conformance.specs.Agreement.{TellsReading};
-ghost use Rattle.conformance.specs.Names.{name_of, Named};
+ghost use Rattle.charset.specs.Sets.{set_of};
+ghost use Rattle.conformance.specs.Agreement.{TellsReading, Tells};
+ghost use Rattle.conformance.specs.Meanings.{meaning_of};
 
 use crate::answer::Answer;
 use charset::CharacterSet;
 use sets::{Iso6937, SingleByte, Utf8};
+use std::error::Error;
+use std::fmt;
+use std::num::ParseIntError;
+use std::str::FromStr;
 
 #[derive(Clone, Copy)]
 pub enum Set {
@@ -16,116 +19,161 @@ pub enum Set {
     Utf8,
 }
 
-impl Set {
-    // The name that vectors use.
-    pub fn name(self) -> &'static str
-        ensures { result.now ≡ name_of self }
-    {
-        match self {
+// By the name that vectors use.
+impl fmt::Display for Set {
+    ghost use Rattle.std.specs.Prelude.{Some};
+    ghost use Rattle.conformance.specs.Names.{name_of};
+
+    ghost output = { λ set. Some (name_of set) };
+
+    fn fmt<W: fmt::Write>(&self, f: &mut fmt::Formatter<W>) -> fmt::Result {
+        f.write_str(match self {
             Set::Iso6937 => "6937",
             Set::Iso8859v16 => "8859-16",
             Set::Sami => "sami",
             Set::Utf8 => "utf-8",
-        }
+        })
     }
+}
 
-    // The set that a vector names.
-    fn named(name: &str) -> Option<Set>
-        ensures { Named name.now result }
-    {
+impl FromStr for Set {
+    type Err = NotAVector;
+
+    ghost use Rattle.conformance.specs.Names.{Named};
+
+    ghost from_str_gives = { Named };
+
+    fn from_str(name: &str) -> Result<Set, NotAVector> {
         match name {
-            "6937" => Some(Set::Iso6937),
-            "8859-16" => Some(Set::Iso8859v16),
-            "sami" => Some(Set::Sami),
-            "utf-8" => Some(Set::Utf8),
-            _ => None,
+            "6937" => Ok(Set::Iso6937),
+            "8859-16" => Ok(Set::Iso8859v16),
+            "sami" => Ok(Set::Sami),
+            "utf-8" => Ok(Set::Utf8),
+            _ => Err(NotAVector),
         }
     }
+}
+
+// What is asked of each number of a run.
+#[derive(Clone, Copy)]
+pub enum Question {
+    // What is read in the string of so many hexadecimal digits.
+    Read { width: usize },
+    // How the character is written.
+    Write,
 }
 
 #[derive(Clone, Copy)]
 pub struct Vector {
     pub set: Set,
-    pub reads: bool,
+    pub question: Question,
     pub from: u32,
     pub to: u32,
-    // How many hexadecimal digits a string of the run has.
-    pub width: usize,
     pub answer: Answer,
 }
 
-// What a set reads in a string.
-fn reading_of<S: CharacterSet>(set: &S, bytes: &[u8]) -> Answer
-    ensures { TellsReading (meaning (S.CharacterSet.codings set.now) (S.CharacterSet.openings set.now) (S.CharacterSet.causes set.now)) bytes.now result }
-{
-    Answer::of_reading(set.read(bytes))
-}
+#[derive(Clone, Copy, Debug, PartialEq, Eq)]
+pub struct NotAVector;
 
-fn ask<S: CharacterSet>(set: &S, vector: &Vector, number: u32) -> Answer {
-    if vector.reads {
-        let bytes = number.to_be_bytes();
-        let start = 4usize.saturating_sub(vector.width / 2);
-        reading_of(set, &bytes[start..4])
-    } else {
-        Answer::of_coding(set.write(number))
+impl fmt::Display for NotAVector {
+    ghost use Rattle.std.specs.Prelude.{Some, codes};
+
+    ghost output = { λ _. Some (codes "not a vector") };
+
+    fn fmt<W: fmt::Write>(&self, f: &mut fmt::Formatter<W>) -> fmt::Result {
+        f.write_str("not a vector")
     }
 }
 
-fn hex(text: &str) -> Option<u32> {
-    u32::from_str_radix(text, 16).ok()
+impl Error for NotAVector {}
+
+impl From<ParseIntError> for NotAVector {
+    fn from(_error: ParseIntError) -> NotAVector {
+        NotAVector
+    }
+}
+
+fn hex(text: &str) -> Result<u32, NotAVector> {
+    Ok(u32::from_str_radix(text, 16)?)
 }
 
 // The other converter's answer to a reading, as `C1/2`, `open` or `refused`.
-fn read_answer(text: &str) -> Option<Answer> {
+fn read_answer(text: &str) -> Result<Answer, NotAVector> {
     match text {
-        "open" => Some(Answer::Open),
-        "refused" => Some(Answer::Refused(0)),
+        "open" => Ok(Answer::Open),
+        "refused" => Ok(Answer::Refused(0)),
         _ => {
-            let (character, length) = text.split_once('/')?;
-            Some(Answer::Character(hex(character)?, length.parse::<usize>().ok()?))
+            let (character, length) = text.split_once('/').ok_or(NotAVector)?;
+            Ok(Answer::Character(hex(character)?, length.parse::<usize>()?))
         }
     }
 }
 
 // The other converter's answer to a writing, as `C241`, `none` or `-`.
-fn write_answer(text: &str) -> Option<Answer> {
+fn write_answer(text: &str) -> Result<Answer, NotAVector> {
     match text {
-        "none" => Some(Answer::NoCoding),
-        "-" => Some(Answer::Bytes(0, 0)),
-        _ => Some(Answer::Bytes(hex(text)?, text.len() / 2)),
+        "none" => Ok(Answer::NoCoding),
+        "-" => Ok(Answer::Bytes(0, 0)),
+        _ => Ok(Answer::Bytes(hex(text)?, text.len() / 2)),
+    }
+}
+
+impl FromStr for Vector {
+    type Err = NotAVector;
+
+    fn from_str(line: &str) -> Result<Vector, NotAVector> {
+        let mut words = line.split(' ');
+        let mut word = || words.next().ok_or(NotAVector);
+        let kind = word()?;
+        let set = word()?.parse::<Set>()?;
+        let first = word()?;
+        let from = hex(first)?;
+        let to = hex(word()?)?;
+        let answer = word()?;
+        let (question, answer) = match kind {
+            "read" => (Question::Read { width: first.len() }, read_answer(answer)?),
+            _ => (Question::Write, write_answer(answer)?),
+        };
+        Ok(Vector {
+            set,
+            question,
+            from,
+            to,
+            answer,
+        })
+    }
+}
+
+// What a set reads in a string.
+fn reading_of<S: CharacterSet>(set: &S, bytes: &[u8]) -> Answer
+    ensures { TellsReading (set_of S.CharacterSet set.now) bytes.now result }
+{
+    Answer::from(set.read(bytes))
+}
+
+fn ask<S: CharacterSet>(set: &S, question: Question, number: u32) -> Answer
+    ensures { Tells (set_of S.CharacterSet set.now) question number result }
+{
+    match question {
+        Question::Read { width } => {
+            let bytes = number.to_be_bytes();
+            let start = 4usize.saturating_sub(width / 2);
+            reading_of(set, &bytes[start..])
+        }
+        Question::Write => Answer::from(set.write(number)),
     }
 }
 
 impl Vector {
-    pub(crate) fn parse(line: &str) -> Option<Vector> {
-        let mut words = line.split(' ');
-        let reads = words.next()? == "read";
-        let set = Set::named(words.next()?)?;
-        let first = words.next()?;
-        let from = hex(first)?;
-        let to = hex(words.next()?)?;
-        let answer = if reads {
-            read_answer(words.next()?)?
-        } else {
-            write_answer(words.next()?)?
-        };
-        Some(Vector {
-            set,
-            reads,
-            from,
-            to,
-            width: first.len(),
-            answer,
-        })
-    }
-
-    // What our set answers to one question of the run.
-    pub(crate) fn ask(&self, number: u32) -> Answer {
+    // What our set answers to one question of the run. A `match`: each set is a type of its own.
+    pub(crate) fn ask(&self, number: u32) -> Answer
+        ensures { Tells (meaning_of self.now.set) self.now.question number result }
+    {
         match self.set {
-            Set::Iso6937 => ask(&Iso6937, self, number),
-            Set::Iso8859v16 => ask(&SingleByte::iso8859_16(), self, number),
-            Set::Sami => ask(&SingleByte::sami(), self, number),
-            Set::Utf8 => ask(&Utf8, self, number),
+            Set::Iso6937 => ask(&Iso6937, self.question, number),
+            Set::Iso8859v16 => ask(&SingleByte::iso8859_16(), self.question, number),
+            Set::Sami => ask(&SingleByte::sami(), self.question, number),
+            Set::Utf8 => ask(&Utf8, self.question, number),
         }
     }
 }

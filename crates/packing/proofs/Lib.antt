@@ -1,1 +1,1 @@
-pub mod Lists
+pub mod Built

@@ -1,7 +1,11 @@
 -- The bytes of a roll as it is packed. Assumes nothing.
-use Rattle.std.specs.Prelude.{ℕ, ◌+◌, ◌/◌, ◌%◌, ◌<◌, ◌≤◌, List, [], ◌∷◌, ◌++◌, length, Ok, Err, Result}
-use Rattle.packing.specs.declared.builder.refusal.PackRefusal.{PackRefusal}
-use Rattle.packing.specs.declared.builder.refusal.PackRefusal.TheVariants.{UnknownForm, TooManyPages, TooLong, NoMemory}
+use Rattle.std.specs.Prelude.{ℕ, ◌+◌, ◌*◌, ◌/◌, ◌%◌, ◌<◌, ◌≤◌, List, [], ◌∷◌, ◌++◌, length, Ok, Err, Result}
+use Rattle.packing.specs.declared.refusal.PackRefusal.{PackRefusal}
+use Rattle.packing.specs.declared.refusal.PackRefusal.TheVariants.{UnknownForm, TooManyPages, TooLong, NoMemory}
+
+pub record Page : Type 0 where
+  pub form : ℕ
+  pub bytes : List ℕ
 
 -- a number in four bytes, the highest first
 abbrev pub in_four : ℕ → List ℕ
@@ -11,13 +15,31 @@ in_four n = (n / 16777216) ∷ (n / 65536 % 256) ∷ (n / 256 % 256) ∷ (n % 25
 abbrev pub entry_of : (offset size form : ℕ) → List ℕ
 entry_of offset size form = in_four offset ++ (in_four size ++ (form ∷ 0 ∷ 0 ∷ 0 ∷ []))
 
+-- the bytes of pages, one page behind the other
+abbrev pub bytes_of : List Page → List ℕ
+bytes_of [] = []
+bytes_of (p ∷ ps) = p.bytes ++ bytes_of ps
+
+-- the index of pages of which the first begins at an offset
+abbrev pub index_from : (offset : ℕ) → List Page → List ℕ
+index_from offset [] = []
+index_from offset (p ∷ ps) = entry_of offset (length p.bytes) p.form ++ index_from (offset + length p.bytes) ps
+
 -- the trailer: the index begins where the pages end, which is the total of their lengths too
 abbrev pub trailer_of : (total count : ℕ) → List ℕ
 trailer_of total count = in_four total ++ (in_four count ++ (in_four total ++ (0x52 ∷ 0x4f ∷ 0x4c ∷ 0x4c ∷ [])))
 
 -- the pages, the index and the trailer
-abbrev pub packed : (pages index : List ℕ) → ℕ → List ℕ
-packed pages index count = pages ++ (index ++ trailer_of (length pages) count)
+abbrev pub packed : List Page → List ℕ
+packed ps = bytes_of ps ++ (index_from 0 ps ++ trailer_of (length (bytes_of ps)) (length ps))
+
+-- how many bytes pages and their index have
+abbrev pub used_by : List Page → ℕ
+used_by ps = length (bytes_of ps) + 12 * length ps
+
+-- a roll can hold these pages
+abbrev pub FitsRoll : List Page → Type 0
+FitsRoll ps = (length ps ≤ 1024) × (used_by ps + 16 ≤ 1048576)
 
 -- whether a roll can hold a page more: the first reason that it cannot
 abbrev pub RoomFor : {X : Type 0} → (form count used size : ℕ) → Result X PackRefusal → Type 0

@@ -2,5 +2,7 @@
 #![tactic(auto)]
 
 mod builder;
+mod refusal;
 
-pub use builder::{Builder, PackRefusal};
+pub use builder::Builder;
+pub use refusal::PackRefusal;

@@ -1,14 +1,12 @@
 -- The odd set keeps the laws, and what it cannot read. Assumes nothing.
-use Rattle.std.specs.Prelude.{◌≡◌, ℕ, zero, suc, ◌<◌, ◌≤◌, true, false, List, [], ◌∷◌, length, take, Some, None, ◌≢◌, slice_index, refl}
+use Rattle.std.specs.Prelude.{◌≡◌, ℕ, zero, suc, ◌<◌, ◌≤◌, true, List, [], ◌∷◌, length, take, Some, None, ◌≢◌, slice_index, refl}
 use Rattle.std.proofs.Common.{arith}
 use Rattle.std.specs.List.{AllByRecursion}
 use Rattle.std.proofs.lemmas.Bool.Decides.{nat_tests}
 use Rattle.charset.specs.Meaning.{NoFront, Unreadable, Laws}
 use Rattle.charset.proofs.FrontLemmas.{alone, none_some, unreadable_here}
-use Rattle.worked_examples.specs.Odd.{odd_single, odd_pair, odd_opens, odd_character, odd_string, odd_openings, odd}
-
-no_true : false ≡ true → ⊥
-no_true e = let z : ◌≡◌ {A = ℕ} 0 1 = cc in omega arith
+use Rattle.sets.specs.Tables.{no_true}
+use Rattle.worked_examples.specs.Odd.{odd_pair, odd_opens, odd_character, odd_string, odd_openings, odd}
 
 written : (c : ℕ) (s : List ℕ) → odd_string c ≡ Some s → odd_character s ≡ Some c
 written c s e = grind (arith, nat_tests)
@@ -87,10 +85,6 @@ odd_laws = record {
   cause_sized = λ s h. (omega arith, omega arith);
   cause_stays = λ s n h. refl;
 }
-
-pub bad_first : (s : List ℕ) → 1 ≤ length s → odd_single (slice_index s 0) ≡ None → odd_opens (slice_index s 0) ≡ false → Unreadable odd s
-bad_first [] l h k = absurd (omega arith)
-bad_first (a ∷ s) l h k = unreadable_here odd_laws (a ∷ s) 0 refl h k
 
 pub bad_second : (s : List ℕ) → 2 ≤ length s → odd_opens (slice_index s 0) ≡ true → odd_pair (slice_index s 0) (slice_index s 1) ≡ None → Unreadable odd s
 bad_second [] l h k = absurd (omega arith)

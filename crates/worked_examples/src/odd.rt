@@ -8,6 +8,11 @@ use charset::{CharacterSet, Coding, Reading, SetRefusal};
 #[derive(Clone, Copy)]
 pub struct Odd;
 
+const REFUSAL: SetRefusal = SetRefusal {
+    cause: 77,
+    depth: 255,
+};
+
 fn single(byte: u8) -> Option<u32>
     ensures { result ≡ odd_single byte }
 {
@@ -32,7 +37,7 @@ fn pair(first: u8, second: u8) -> Option<u32>
 fn opens(byte: u8) -> bool
     ensures { result ≡ odd_opens byte }
 {
-    byte == 0x80 || byte == 0xA0 || byte == 0x43
+    matches!(byte, 0x80 | 0xA0 | 0x43)
 }
 
 impl CharacterSet for Odd {
@@ -55,24 +60,16 @@ impl CharacterSet for Odd {
             });
         }
         if !opens(*first) {
-            return Err(SetRefusal {
-                cause: 77,
-                depth: 255,
-            });
+            return Err(REFUSAL);
         }
         let [_, second, ..] = bytes else {
             return Ok(Reading::Open);
         };
-        match pair(*first, *second) {
-            Some(character) => Ok(Reading::Found {
-                character,
-                length: 2,
-            }),
-            None => Err(SetRefusal {
-                cause: 77,
-                depth: 255,
-            }),
-        }
+        let character = pair(*first, *second).ok_or(REFUSAL)?;
+        Ok(Reading::Found {
+            character,
+            length: 2,
+        })
     }
 
     fn write(&self, number: u32) -> Option<Coding> {

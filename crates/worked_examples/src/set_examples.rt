@@ -1,5 +1,6 @@
 // The examples of RFC 3629, section 7, the edges of UTF-8, and what a hasty reader of ISO/IEC 6937 gets wrong.
-use charset::{CharacterSet, Reading, SetRefusal};
+use crate::asserts::{opens, reads, refuses, writes, writes_nothing};
+use charset::CharacterSet;
 use sets::{Iso6937, SingleByte, Utf8};
 use std::process::Abort;
 use std::test::Fail;
@@ -10,27 +11,12 @@ fn both_ways<S: CharacterSet>(
     bytes: &[u8],
     character: u32,
 ) -> Result<(), Fail> {
-    assert_eq!(rt;
-        set.read(bytes),
-        Ok(Reading::Found {
-            character,
-            length: bytes.len(),
-        })
-    );
-    match set.write(character) {
-        Some(coding) => {
-            assert!(rt; coding.as_bytes() == bytes);
-            Ok(())
-        },
-        None => {
-            assert!(rt; false, "no coding");
-            Ok(())
-        },
-    }
+    reads(rt, set, bytes, character, bytes.len());
+    writes(rt, set, character, bytes)
 }
 
 fn refused<S: CharacterSet>(rt: &impl Abort, set: &S, bytes: &[u8], cause: u8) {
-    assert_eq!(rt; set.read(bytes), Err(SetRefusal { cause, depth: 0 }));
+    refuses(rt, set, bytes, cause, 0);
 }
 
 #[test]
@@ -57,10 +43,10 @@ fn utf8_refusals(rt: HostRuntime) {
     refused(&rt, &Utf8, &[0xF0, 0x8F], 33);
     refused(&rt, &Utf8, &[0xF4, 0x90], 33);
     refused(&rt, &Utf8, &[0xF5], 33);
-    assert_eq!(rt; Utf8.read(&[0xF4, 0x8F, 0xBF]), Ok(Reading::Open));
-    assert!(rt; Utf8.write(0xD800).is_none());
-    assert!(rt; Utf8.write(0xDFFF).is_none());
-    assert!(rt; Utf8.write(0x110000).is_none());
+    opens(&rt, &Utf8, &[0xF4, 0x8F, 0xBF]);
+    writes_nothing(&rt, &Utf8, 0xD800);
+    writes_nothing(&rt, &Utf8, 0xDFFF);
+    writes_nothing(&rt, &Utf8, 0x110000);
 }
 
 #[test]
@@ -76,7 +62,7 @@ fn iso6937_pairs(rt: HostRuntime) -> Result<(), Fail> {
     refused(&rt, &Iso6937, &[0xC1, b' '], 32);
     refused(&rt, &Iso6937, &[0xC9, b'a'], 31);
     refused(&rt, &Iso6937, &[0x0A], 31);
-    assert!(rt; Iso6937.write(0x219).is_none());
+    writes_nothing(&rt, &Iso6937, 0x219);
     Ok(())
 }
 
@@ -87,12 +73,12 @@ fn single_bytes(rt: HostRuntime) -> Result<(), Fail> {
     both_ways(&rt, &romanian, &[0xDE], 0x21A)?;
     both_ways(&rt, &romanian, &[0xA4], 0x20AC)?;
     refused(&rt, &romanian, &[0x9F], 31);
-    assert!(rt; romanian.write(0x15E).is_none());
-    assert!(rt; romanian.write(0x15F).is_none());
-    assert_eq!(rt; romanian.read(&[]), Ok(Reading::Open));
+    writes_nothing(&rt, &romanian, 0x15E);
+    writes_nothing(&rt, &romanian, 0x15F);
+    opens(&rt, &romanian, &[]);
     let sami = SingleByte::sami();
     both_ways(&rt, &sami, &[0xAF], 0x14A)?;
     refused(&rt, &sami, &[0x82], 31);
-    assert!(rt; sami.write(0).is_none());
+    writes_nothing(&rt, &sami, 0);
     Ok(())
 }

@@ -1,15 +1,17 @@
-use Rattle.std.proofs.Common.{◌≡◌, [], ◌∷◌, ◌++◌, vec_items, ◌∙◌, rules}
-use Rattle.packing.proofs.Lists.{three_more}
+use Rattle.std.proofs.Common.{◌≡◌, [], ◌∷◌, ◌++◌, length, arith, sym, ap, ◌∙◌, rules}
+use Rattle.std.proofs.lemmas.Grind.{common_steps}
+use Rattle.packing.proofs.Built.{length-pages_in, bytes_of-pages_in}
+use Rattle.packing.specs.Packed.{bytes_of}
 use Rattle.packing.proofs.builder.Builder.with_page.Goals as goal
 
-pub returns : goal.returns
-returns c =
-    let a : vec_items c.extend_from_slice.new.self ≡ vec_items c.args.self.index ++ c.in_four.result = search rules in
-    let b : vec_items c.extend_from_slice-2.new.self ≡ vec_items c.extend_from_slice.new.self ++ c.in_four-2.result = search rules in
-    let d : vec_items c.extend_from_slice-3.new.self ≡ vec_items c.extend_from_slice-2.new.self ++ (c.args.form ∷ 0 ∷ 0 ∷ 0 ∷ []) = search rules in
-    record {
-      room = search rules;
-      pages = search rules;
-      index = three_more _ _ _ _ c.in_four.result c.in_four-2.result _ a b d ∙ rw (c.in_four.ensures, c.in_four-2.ensures, c.len-3.ensures);
-      count = search rules;
-    }
+pub invariant_of-result : goal.invariant_of-result
+invariant_of-result c =
+    let b = c.self.inside in
+    let count : length c.args.self ≡ length b.entries.items = ap length (sym c.self.view_is) ∙ length-pages_in b.entries.items b.bytes.items in
+    let size : bytes_of c.args.self ≡ b.bytes.items = ap bytes_of (sym c.self.view_is) ∙ bytes_of-pages_in b.entries.items b.bytes.items c.self.invariant.sized in
+    let pushed : c.push.new.self.items ≡ b.entries.items ++ record { form = c.args.form; size = length c.args.page.now } ∷ [] = search rules in
+    rw (pushed, c.in_ok-extend_from_slice.ensures.items) (record {
+      few = grind (arith, common_steps);
+      sized = grind (arith, common_steps);
+      small = grind (arith, common_steps);
+    })

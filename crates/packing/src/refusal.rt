@@ -2,6 +2,7 @@
 ghost use Rattle.std.specs.Prelude.{Some};
 ghost use Rattle.packing.specs.Messages.{message};
 
+use std::alloc::AllocError;
 use std::error::Error;
 use std::fmt;
 
@@ -30,3 +31,14 @@ impl fmt::Display for PackRefusal {
 }
 
 impl Error for PackRefusal {}
+
+impl From<AllocError> for PackRefusal {
+    ghost use Rattle.std.specs.Prelude.{◌≡◌};
+    ghost use Rattle.packing.specs.declared.refusal.PackRefusal.TheVariants.{NoMemory};
+
+    ghost from_gives = { λ _ r. r ≡ NoMemory };
+
+    fn from(_error: AllocError) -> PackRefusal {
+        PackRefusal::NoMemory
+    }
+}

@@ -1,0 +1,83 @@
+// A run of a vector's questions to which our answer is the same.
+ghost use Rattle.std.specs.Prelude.{◌≡◌, ◌+◌, ◌-◌};
+ghost use Rattle.conformance.specs.Differences.{first_byte, Apart, ApartInReading, ApartInWriting};
+
+use crate::answer::Answer;
+use crate::known::{Known, beyond, in_6937};
+use crate::vector::{Question, Set, Vector};
+use std::fmt;
+
+#[derive(Clone, Copy)]
+pub struct Run<'a> {
+    pub vector: &'a Vector,
+    pub from: u32,
+    pub to: u32,
+    pub ours: Answer,
+}
+
+impl Run<'_> {
+    pub(crate) fn question_count(&self) -> u64
+        ensures { result ≡ self.now.to + 1 - self.now.from }
+    {
+        (u64::from(self.to) + 1).saturating_sub(u64::from(self.from))
+    }
+
+    // The kind of the difference, if it is a known one.
+    fn known(&self) -> Option<Known>
+        ensures { Apart self.now.vector.now self.now.from self.now.ours result }
+    {
+        match self.vector.question {
+            Question::Read { width } => self.in_reading(width),
+            Question::Write => self.in_writing(),
+        }
+    }
+
+    // A difference in what a string is read as.
+    fn in_reading(&self, width: usize) -> Option<Known>
+        ensures { ApartInReading self.now.vector.now.set (first_byte width self.now.from) self.now.vector.now.answer self.now.ours result }
+    {
+        let first = if width > 2 { self.from >> 8 } else { self.from };
+        match (self.vector.set, self.vector.answer, self.ours) {
+            (_, Answer::Open, Answer::Refused(_)) => Some(Known::Waits),
+            (Set::Utf8, _, _) => None,
+            (set, Answer::Character(character, 1), Answer::Refused(31)) => beyond(
+                set, character, first,
+            ),
+            (Set::Iso6937, theirs, ours) => in_6937(theirs, ours),
+            _ => None,
+        }
+    }
+
+    // A difference in how a character is written.
+    fn in_writing(&self) -> Option<Known>
+        ensures { ApartInWriting self.now.vector.now.set self.now.from self.now.vector.now.answer result }
+    {
+        match (self.vector.set, self.vector.answer, self.from) {
+            (Set::Utf8, _, _) => None,
+            (_, Answer::Bytes(0, 0), 0xE0000..=0xE007F) => Some(Known::Tags),
+            (Set::Iso6937, _, 0x2014..=0x2015) => Some(Known::Bar),
+            (Set::Iso6937, _, 0xD0 | 0x110) => Some(Known::Stroke),
+            (Set::Iso6937, _, 0x123) => Some(Known::SmallG),
+            (set, Answer::Bytes(byte, 1), number) => beyond(set, number, byte),
+            _ => None,
+        }
+    }
+}
+
+// Its text is not promised: the kind of a difference is a relation in the specs, and no function.
+impl fmt::Display for Run<'_> {
+    fn fmt<W: fmt::Write>(&self, f: &mut fmt::Formatter<W>) -> fmt::Result {
+        let from = self.from;
+        let to = self.to;
+        let set = self.vector.set;
+        match self.vector.question {
+            Question::Read { width } => write!(f, "read {set} {from:0width$X}-{to:0width$X}")?,
+            Question::Write => write!(f, "write {set} U+{from:04X}-U+{to:04X}")?,
+        }
+        write!(f, ": {}, converter {}", self.ours, self.vector.answer)?;
+        match self.known() {
+            Some(known) => write!(f, " ({known})"),
+            None => write!(f, " (UNKNOWN)"),
+        }
+    }
+}

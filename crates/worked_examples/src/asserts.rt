@@ -1,0 +1,37 @@
+// What the examples assert of a set.
+use charset::{CharacterSet, Reading, SetRefusal};
+use std::process::Abort;
+use std::test::Fail;
+
+pub fn reads<S: CharacterSet>(
+    rt: &impl Abort,
+    set: &S,
+    bytes: &[u8],
+    character: u32,
+    length: usize,
+) {
+    assert_eq!(rt; set.read(bytes), Ok(Reading::Found { character, length }));
+}
+
+pub fn opens<S: CharacterSet>(rt: &impl Abort, set: &S, bytes: &[u8]) {
+    assert_eq!(rt; set.read(bytes), Ok(Reading::Open));
+}
+
+pub fn refuses<S: CharacterSet>(rt: &impl Abort, set: &S, bytes: &[u8], cause: u8, depth: u8) {
+    assert_eq!(rt; set.read(bytes), Err(SetRefusal { cause, depth }));
+}
+
+pub fn writes<S: CharacterSet>(
+    rt: &impl Abort,
+    set: &S,
+    number: u32,
+    bytes: &[u8],
+) -> Result<(), Fail> {
+    let coding = set.write(number).ok_or("no coding")?;
+    assert!(rt; coding.as_bytes() == bytes);
+    Ok(())
+}
+
+pub fn writes_nothing<S: CharacterSet>(rt: &impl Abort, set: &S, number: u32) {
+    assert!(rt; set.write(number).is_none());
+}
