@@ -55,7 +55,7 @@ impl From<FaultAt> for Refusal {
     }
 }
 
-// A refusal by its number, with the values that come with it, as the table of refusals has them; those that do not are 0. `standing` is the number of a fault that
+// A refusal by its number, with the values that come with it, numbers and no enum, as the table of refusals lists them; those that do not are 0. `standing` is the number of a fault that
 // stood already.
 #[derive(Clone, Copy, PartialEq, Eq, Debug, Default)]
 pub struct Told {

@@ -30,7 +30,8 @@ impl Count {
         Ok(())
     }
 
-    // Puts the questions of a vector to our set. A loop: an iterator of runs would be a type more, with a law that it ends.
+    // Puts the questions of a vector to our set. A loop: to collect the answers first and group them would take memory for
+    // a million of them.
     fn hold(&mut self, rt: &HostRuntime, vector: &Vector) -> anyhow::Result<()> {
         let mut run = Run {
             vector,

@@ -1,4 +1,5 @@
 pub mod Stops
+pub mod Next
 pub mod Steps
 pub mod Runs
 pub mod Transcribed

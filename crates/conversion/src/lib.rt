@@ -4,11 +4,12 @@
 ghost use Rattle.std.specs.Prelude.{◌≡◌, ◌≤◌, ◌++◌, length, drop};
 ghost use Rattle.charset.specs.Sets.{set_of};
 ghost use Rattle.conversion.specs.declared.Fault.TheVariants.{Unread};
+ghost use Rattle.conversion.specs.Next.{ComesNext};
 ghost use Rattle.conversion.specs.Steps.{Steps};
 ghost use Rattle.conversion.specs.Runs.{Runs};
 
 pub use charset::Front;
-use charset::{CharacterSet, Reading, SetRefusal};
+use charset::{CharacterSet, Coding, Reading, SetRefusal};
 
 // Why a transcript cannot go on.
 #[derive(Clone, Copy, PartialEq, Eq, Debug)]
@@ -56,6 +57,21 @@ pub struct Run {
     pub end: Result<Pause, Fault>,
 }
 
+// The target coding of the character in front of the input, and how many bytes the character is read from; none where the input is open.
+pub fn next_coding<S: CharacterSet, T: CharacterSet>(
+    source: &S,
+    target: &T,
+    input: &[u8],
+) -> Result<Option<(Coding, usize)>, Fault>
+    ensures { ComesNext (set_of S.CharacterSet source.now) (set_of T.CharacterSet target.now) input.now result }
+{
+    let Reading::Found { character, length } = source.read(input)? else {
+        return Ok(None);
+    };
+    let coding = target.write(character).ok_or(Fault::Unwritten(character))?;
+    Ok(Some((coding, length)))
+}
+
 // The character in front of the input into the front of the output. The two sets are parameters of each function here: a struct of two
 // references would be made for each call and say no more.
 pub fn convert_one<S: CharacterSet, T: CharacterSet>(
@@ -66,10 +82,9 @@ pub fn convert_one<S: CharacterSet, T: CharacterSet>(
 ) -> Result<Step, Fault>
     ensures { Steps (set_of S.CharacterSet source.now) (set_of T.CharacterSet target.now) input.now output.old output.new result }
 {
-    let Reading::Found { character, length } = source.read(input)? else {
+    let Some((coding, length)) = next_coding(source, target, input)? else {
         return Ok(Step::Paused(Pause::Open));
     };
-    let coding = target.write(character).ok_or(Fault::Unwritten(character))?;
     let bytes = coding.as_bytes();
     let written = bytes.len();
     if output.len() < written {
@@ -82,7 +97,8 @@ pub fn convert_one<S: CharacterSet, T: CharacterSet>(
     })
 }
 
-// The character that stands `at` bytes behind the start of the held bytes and then the sector. As long as it begins among the held
+// The character that stands `at` bytes behind the start of the held bytes and then the sector, which stay two parameters: a transcript holds the
+// one and is lent the other. As long as it begins among the held
 // bytes it is read from a copy of the four bytes there, which decide it.
 fn convert_at<S: CharacterSet, T: CharacterSet>(
     source: &S,

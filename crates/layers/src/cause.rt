@@ -4,30 +4,25 @@ ghost use Rattle.layers.specs.Causes.{refusal};
 
 use charset::SetRefusal;
 
+// The numbers are those of the refusals.
 #[derive(Clone, Copy, PartialEq, Eq, Debug)]
 pub enum Cause {
     // A byte has an odd number of ones.
-    OddParity,
+    OddParity = 34,
     // A byte cannot follow what was shifted.
-    NotShifted,
+    NotShifted = 35,
     // Four bytes are an opening still.
-    TooLong,
+    TooLong = 36,
     // A character is not on the list.
-    NotListed,
+    NotListed = 37,
 }
 
 impl From<Cause> for SetRefusal {
     ghost from_gives = { λ cause r. r ≡ refusal cause };
 
     fn from(cause: Cause) -> SetRefusal {
-        let number = match cause {
-            Cause::OddParity => 34,
-            Cause::NotShifted => 35,
-            Cause::TooLong => 36,
-            Cause::NotListed => 37,
-        };
         SetRefusal {
-            cause: number,
+            cause: cause as u8,
             depth: 0,
         }
     }

@@ -85,7 +85,8 @@ impl Model for CharacterList {
 impl CharacterList {
     // The required characters and no others.
     pub fn new(heap: Global) -> Result<CharacterList, AllocError>
-        ensures { IfOk result (λ l. l ≡ required) }
+        ensures characters { IfOk result (λ l. l ≡ required) }
+        ensures sound { IfOk result (λ l. Sound l) }
     {
         let characters = REQUIRED.to_vec(heap)?;
         Ok(CharacterList { characters })

@@ -7,6 +7,7 @@ use crate::refusal::PackRefusal;
 use std::alloc::{AllocError, Global};
 use std::marker::Model;
 
+// The limits of the format are written here again: this crate stands on no other, and `roll` on what reads rolls.
 const LAST_FORM: u8 = 7;
 
 const MOST_PAGES: usize = 1_024;
@@ -19,7 +20,7 @@ const ENTRY_BYTES: usize = 12;
 
 const TRAILER_BYTES: usize = 16;
 
-// The form of a page, and how many bytes it has.
+// The number of a page's form, 0 for a picture, and how many bytes the page has.
 #[derive(Clone, Copy)]
 struct Entry {
     form: u8,
@@ -75,7 +76,7 @@ impl Builder {
         self.bytes.len() + ENTRY_BYTES * self.entries.len() + TRAILER_BYTES
     }
 
-    // One page more, behind the others. The form is any number, and one that no page has is refused here.
+    // One page more, behind the others. The form is any number: that one above 7 is refused is a part of the promise.
     #[tactic(auto, using(crate::proofs::Built::pages_in_push))]
     pub fn with_page(self, form: u8, page: &[u8]) -> Result<Builder, PackRefusal>
         ensures fits { FitsRoll self }
@@ -119,7 +120,7 @@ impl Builder {
     }
 }
 
-// The index, an entry to a page. A loop, since each write can fail, and each page begins where the one before ends.
+// The index, an entry to a page. A loop with `?`: as a fold over the offset it is no shorter.
 fn write_index(roll: &mut Vec<u8>, entries: &[Entry]) -> Result<(), AllocError>
     requires { sum_by (λ e. e.size) entries.now ≤ 1048576 }
     ensures { OnOk result (roll.new.items ≡ roll.old.items ++ index_of 0 entries.now) }

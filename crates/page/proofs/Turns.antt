@@ -8,7 +8,7 @@ use Rattle.charset.specs.Decoding.{Spells}
 use Rattle.charset.proofs.Spelling.{spells_append}
 use Rattle.conversion.specs.declared.Fault.{Fault}
 use Rattle.conversion.specs.Transcribed.{Ends, TheTranscript}
-use Rattle.page.specs.Next.{ComesNext}
+use Rattle.page.specs.Next.{NextOnPage}
 use Rattle.conversion.proofs.Once.{the_transcript}
 
 -- the characters read and written so far
@@ -54,11 +54,11 @@ module _ (S T : Meaning) (l : Laws S) (bytes text : List ℕ) (count offset : �
   abbrev left : List ℕ
   left = take (length bytes - offset) (drop offset bytes)
 
-  pub goes_on : {r : Option (List ℕ × ℕ)} (v longer : List ℕ) (n : ℕ) → r ≡ Some (v, n) → ComesNext S T left (Ok r) → longer ≡ text ++ v → Far S T bytes longer (count + 1) (offset + n)
+  pub goes_on : {r : Option (List ℕ × ℕ)} (v longer : List ℕ) (n : ℕ) → r ≡ Some (v, n) → NextOnPage S T left (Ok r) → longer ≡ text ++ v → Far S T bytes longer (count + 1) (offset + n)
   goes_on v longer n e h f = let k = rw (e, take_rest bytes offset) at h in far_more k.0 n v longer k.1 k.2 f
 
-  pub ends_whole : {r : Option (List ℕ × ℕ)} → r ≡ None → ComesNext S T left (Ok r) → TheTranscript S T bytes text count offset None
+  pub ends_whole : {r : Option (List ℕ × ℕ)} → r ≡ None → NextOnPage S T left (Ok r) → TheTranscript S T bytes text count offset None
   ends_whole e h = far_ends None (rw (e, take_rest bytes offset) at h)
 
-  pub ends_by : (stop : Fault) → ComesNext S T left (Err stop) → TheTranscript S T bytes text count offset (Some stop)
+  pub ends_by : (stop : Fault) → NextOnPage S T left (Err stop) → TheTranscript S T bytes text count offset (Some stop)
   ends_by stop h = far_ends (Some stop) (subst (λ z. Ends S T z (Some stop)) (take_rest bytes offset) h)

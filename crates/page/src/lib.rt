@@ -7,11 +7,11 @@ ghost use Rattle.sets.specs.Iso6937.{iso6937};
 ghost use Rattle.sets.specs.Utf8.{utf8};
 ghost use Rattle.page_stacks.specs.Examples.{WorkedExamples};
 ghost use Rattle.conversion.specs.Transcribed.{TheTranscript};
-ghost use Rattle.page.specs.Next.{ComesNext};
+ghost use Rattle.page.specs.Next.{NextOnPage};
 ghost use Rattle.page.specs.Report.{line_of, Reports};
 ghost use Rattle.page.specs.Stops.{number_of, AlwaysWritten};
 
-use charset::{CharacterSet, Coding, Reading, read_front};
+use charset::{CharacterSet, Coding};
 // Why a page is not read to its end is what faults a transcript.
 pub use conversion::Fault as Stop;
 pub use page_stacks::{read_three_deep, read_with_parity};
@@ -55,30 +55,24 @@ impl Page {
     }
 }
 
-// The next character's coding in the target set, and how many bytes it is read from; none at the end of the page.
+// The next character's coding in the target set, and how many bytes it is read from; none at the end of the page. The two sets are parameters here
+// too: a struct of two references would say no more.
 fn next_coding<S: CharacterSet, T: CharacterSet>(
     source: &S,
     target: &T,
     rest: &[u8],
 ) -> Result<Option<(Coding, usize)>, Stop>
-    ensures { ComesNext (set_of S.CharacterSet source.now) (set_of T.CharacterSet target.now) rest.now result }
+    ensures { NextOnPage (set_of S.CharacterSet source.now) (set_of T.CharacterSet target.now) rest.now result }
 {
-    match read_front(source, rest)? {
-        Reading::Found { character, length } => {
-            let coding = target.write(character).ok_or(Stop::Unwritten(character))?;
-            Ok(Some((coding, length)))
-        }
-        Reading::Open => {
-            if rest.is_empty() {
-                Ok(None)
-            } else {
-                Err(Stop::Unfinished)
-            }
-        }
+    match conversion::next_coding(source, target, rest)? {
+        None if rest.is_empty() => Ok(None),
+        None => Err(Stop::Unfinished),
+        next => Ok(next),
     }
 }
 
-// Reads a page in one set and writes it in another, up to its end or its stop. A loop, since what is read decides where the next reading begins.
+// Reads a page in one set and writes it in another, up to its end or its stop. Beside `transcription::transcribe`, which goes by sectors and refuses
+// what is longer than a source: this call takes any length. A loop, since what is read decides where the next reading begins.
 pub fn transcribe<S: CharacterSet, T: CharacterSet>(
     heap: Global,
     source: &S,

@@ -23,8 +23,7 @@ pub enum RollFault {
     Faulted { page: u32, fault: FaultAt },
 }
 
-// The transcript's fault, with the page number.
-// The format asks for this form: the fault and its page by From.
+// The transcript's fault, with the page number: a pair, so that `?` turns it in one step.
 impl From<(u32, FaultAt)> for RollFault {
     ghost from_gives = { λ e r. r ≡ Faulted e.0 e.1 };
 
@@ -34,8 +33,8 @@ impl From<(u32, FaultAt)> for RollFault {
 }
 
 // A refusal by its number, with the values that come with it; those that do not are 0.
-// The format asks for this form: what is printed is numbers.
-#[derive(Clone, Copy)]
+// Numbers and no enum: this is what an answer prints and a table of refusals lists.
+#[derive(Clone, Copy, PartialEq, Eq, Debug, Default)]
 pub struct RollTold {
     pub number: u8,
     pub entry: u32,
@@ -50,9 +49,7 @@ impl RollTold {
     {
         RollTold {
             number,
-            entry: 0,
-            page: 0,
-            offset: 0,
+            ..RollTold::default()
         }
     }
 }

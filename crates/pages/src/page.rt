@@ -61,7 +61,7 @@ impl TryFrom<u8> for Form {
 }
 
 // The part of the roll that the page is, and where it begins in the roll.
-// The format asks for this form: cases that hold the borrowed part.
+// An enum and no struct with an optional form: a picture and a text are read in different ways.
 #[derive(Clone, Copy)]
 pub enum Page<'a> {
     Text {

@@ -12,7 +12,8 @@ pub(crate) fn word_at(bytes: &[u8], at: usize) -> u32
     u32::from_be_bytes([bytes[at], bytes[at + 1], bytes[at + 2], bytes[at + 3]])
 }
 
-// What an entry tells: where its page begins and ends, its form, and whether the three bytes behind are 00.
+// What an entry tells, whether it keeps the rules or not: where its page begins and ends, its form by any number, and whether the three bytes behind
+// are 00.
 #[derive(Clone, Copy)]
 pub(crate) struct Entry {
     pub(crate) offset: usize,
@@ -69,8 +70,8 @@ impl Index<'_> {
         Ok(entry.end)
     }
 
-    // Where the last page ends, which is the sum of the lengths, if every entry keeps the rules. A loop, since each entry is held against the end of
-    // the page before it.
+    // Where the last page ends, which is the sum of the lengths, if every entry keeps the rules. A loop with `?`: as a fold over
+    // the end of the page before it is no shorter.
     pub(crate) fn checked_total(&self) -> Result<usize, RollFault>
         ensures { Checked self.now.bytes.now result }
     {

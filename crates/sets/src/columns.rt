@@ -1,5 +1,6 @@
 // A code table of single bytes: ASCII in the lower half, and in the upper the columns 10 to 15 with sixteen rows each, so
-// bytes A0 to FF, with the code point at each position, or 0 where no character stands.
+// bytes A0 to FF, with the code point at each position, or 0 where no character stands: no
+// `Option`, so that the table can be laid beside the printed one.
 ghost use Rattle.std.specs.Prelude.{◌≡◌};
 ghost use Rattle.sets.specs.Columns.{upper_at, character_at, upper_of, byte_of};
 

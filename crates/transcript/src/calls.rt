@@ -60,7 +60,7 @@ impl<S: CharacterSet, T: CharacterSet> Transcript<S, T> {
         self.progress.settle(run, sector)
     }
 
-    // One call, by the state of the transcript.
+    // One call, by the state of the transcript: one match shows for each state what each call does.
     pub fn call(&mut self, call: Call) -> Result<Answer, Refusal>
         ensures sets { (self.new.source ≡ self.old.source) × (self.new.target ≡ self.old.target) }
         ensures told { Called (set_of S.CharacterSet self.old.source) (set_of T.CharacterSet self.old.target) (snapshot self.old.progress) call.entry (snapshot self.new.progress) call.exit result }
@@ -72,7 +72,7 @@ impl<S: CharacterSet, T: CharacterSet> Transcript<S, T> {
             }
             (_, Call::Status) => Ok(Answer::Told(self.progress.status())),
             (State::Closed, _) => Err(Refusal::AlreadyClosed),
-            // Two arms: in one that both calls share, the proof loses which call and which fault it is.
+            // Two arms: the checker does not cover one that binds the fault for both calls.
             (State::Faulted(fault), Call::Offer { .. }) => Err(Refusal::Standing(fault)),
             (State::Faulted(fault), Call::Close) => Err(Refusal::Standing(fault)),
             (State::Open, Call::Close) => {

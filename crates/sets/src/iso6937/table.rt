@@ -122,7 +122,7 @@ pub fn letters_of(mark: u8) -> Option<&'static [(u8, u32)]>
     DIACRITICS.iter().find_map(|diacritic| (diacritic.mark == mark).then_some(diacritic.letters))
 }
 
-// The character of a letter under a diacritic.
+// The character of a letter under a diacritic. From the front, as all searches here: by halves, the order would be one more fact to keep.
 pub fn accented(letters: &[(u8, u32)], letter: u8) -> Option<u32>
     ensures { result ≡ accented letter letters.now }
 {

@@ -11,4 +11,6 @@ invariant_of-result c =
 
 pub returns : goal.returns
 unfolding required
-returns c = c.in_ok-characters.ensures.items_if_clones_equal (λ x y e. e)
+returns c =
+    let same : vec_items c.in_ok-characters.characters ≡ required = c.in_ok-characters.ensures.items_if_clones_equal (λ x y e. e) in
+    record { characters = same; sound = subst Sound (sym same) required_sound }
