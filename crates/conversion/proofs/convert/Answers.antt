@@ -1,13 +1,12 @@
-use Rattle.std.proofs.Common.{◌≡◌, ℕ, ◌+◌, ◌-◌, ◌<◌, ◌≤◌, List, ◌++◌, length, take, drop, Ok, Err, refl, subst, arith, length-append}
+use Rattle.std.proofs.Common.{◌≡◌, ℕ, ◌+◌, ◌-◌, List, ◌++◌, length, take, drop, Ok, refl, subst}
 use borrow.Rule.Slice.PartMut.{put_mid}
 use Rattle.charset.specs.Meaning.{Meaning, Laws}
 use Rattle.conversion.specs.declared.Step.{Step}
 use Rattle.conversion.specs.declared.Step.TheVariants.{Written, Paused}
-use Rattle.conversion.specs.declared.Fault.{Fault}
 use Rattle.conversion.specs.declared.Pause.{Pause}
 use Rattle.conversion.specs.Steps.{Steps}
 use Rattle.conversion.specs.Runs.{Runs}
-use Rattle.conversion.proofs.Turns.{Far, found_size, far_more, far_ends}
+use Rattle.conversion.proofs.Turns.{Far, far_more, far_ends}
 use Rattle.conversion.proofs.convert.Goals as goal
 
 -- the step as its pattern names it
@@ -18,36 +17,11 @@ module _ {S T : Meaning} (l : Laws S) (held sector out o last : List ℕ) {count
   abbrev part : List ℕ
   part = take (length o - put) (drop put o)
 
-  -- how far a character that is written goes
-  size : (n k : ℕ) {x : Step} → x ≡ Written n k → Steps S T (drop at (held ++ sector)) part last (Ok x) → (0 < n) × (at + n ≤ length held + length sector)
-  size n k e s =
-      let w = step_as S T _ _ _ e s in
-      let h = found_size S T l (held ++ sector) out o count at put far w.0 n w.2 in
-      (h.0, omega (arith, h.1, length-append held sector))
-
   more : (n k : ℕ) {x : Step} → x ≡ Written n k → Steps S T (drop at (held ++ sector)) part last (Ok x) → Far S T (held ++ sector) out (put_mid put (length o - put) o last) (count + 1) (at + n) (put + k)
   more n k e s = far_more S T l (held ++ sector) out o count at put far _ last n k (step_as S T _ _ _ e s) refl
 
   ends : (p : Pause) {x : Step} → x ≡ Paused p → Steps S T (drop at (held ++ sector)) part last (Ok x) → Runs S T (held ++ sector) out (put_mid put (length o - put) o last) (record { characters = count; read = at; written = put; end = Ok p })
   ends p e s = let w = step_as S T _ _ _ e s in far_ends S T l (held ++ sector) out o count at put far (Ok p) _ last w.0 w.1 refl
-
-  faults : (f : Fault) → Steps S T (drop at (held ++ sector)) part last (Err f) → Runs S T (held ++ sector) out (put_mid put (length o - put) o last) (record { characters = count; read = at; written = put; end = Err f })
-  faults f s = far_ends S T l (held ++ sector) out o count at put far (Err f) _ last s.0 s.1 refl
-
-pub overflow_add-characters : goal.overflow_add-characters
-overflow_add-characters g c =
-    let h = size (g.met.S.CharacterSet.lawful c.args.source.now) c.args.held c.args.sector.now c.args.output.now c.run.output c.convert_at.new.output c.run.invariant _ _ c.in-Ok-Written.field-0-is c.in-Ok-Written.ensures in
-    omega (arith, h.0, h.1, c.len.ensures.value, c.len.ensures.few, c.run.invariant.few)
-
-pub overflow_add-read : goal.overflow_add-read
-overflow_add-read g c =
-    let h = size (g.met.S.CharacterSet.lawful c.args.source.now) c.args.held c.args.sector.now c.args.output.now c.run.output c.convert_at.new.output c.run.invariant _ _ c.in-Ok-Written.field-0-is c.in-Ok-Written.ensures in
-    omega (arith, h.0, h.1, c.len.ensures.value, c.len.ensures.few)
-
-pub run-smaller : goal.run-smaller
-run-smaller g c =
-    let h = size (g.met.S.CharacterSet.lawful c.args.source.now) c.args.held c.args.sector.now c.args.output.now c.run.output c.convert_at.new.output c.run.invariant _ _ c.in-Ok-Written.field-0-is c.in-Ok-Written.ensures in
-    omega (arith, h.0, h.1, length-append c.args.held c.args.sector.now)
 
 pub run-preserved : goal.run-preserved
 run-preserved g c =
@@ -56,7 +30,3 @@ run-preserved g c =
 pub returns-in-Ok-Paused : goal.returns-in-Ok-Paused
 returns-in-Ok-Paused g c =
     ends (g.met.S.CharacterSet.lawful c.args.source.now) c.args.held c.args.sector.now c.args.output.now c.run.output c.convert_at.new.output c.run.invariant _ c.in-Ok-Paused.field-0-is c.in-Ok-Paused.ensures
-
-pub returns-in-Err : goal.returns-in-Err
-returns-in-Err g c =
-    faults (g.met.S.CharacterSet.lawful c.args.source.now) c.args.held c.args.sector.now c.args.output.now c.run.output c.convert_at.new.output c.run.invariant _ c.in-Err.ensures

@@ -1,4 +1,4 @@
-use Rattle.std.proofs.Common.{◌≡◌, ℕ, ◌-◌, ◌≤◌, List, ◌++◌, length, take, drop, Result, ap, ◌∙◌, arith, length-append}
+use Rattle.std.proofs.Common.{◌≡◌, ℕ, ◌-◌, ◌≤◌, List, ◌++◌, length, take, drop, Result, ◌∙◌}
 use Rattle.charset.specs.Meaning.{Meaning, Laws}
 use Rattle.charset.specs.Sets.{set_of}
 use Rattle.conversion.specs.declared.Fault.{Fault}
@@ -6,12 +6,6 @@ use Rattle.conversion.specs.declared.Step.{Step}
 use Rattle.conversion.specs.Steps.{Steps}
 use Rattle.conversion.proofs.Windows.{behind, steps_four}
 use Rattle.conversion.proofs.convert_at.Goals as goal
-
-pub slice_bounds-convert_one-count : goal.slice_bounds-convert_one-count
-slice_bounds-convert_one-count g c = omega (arith, c.requires, length-append c.args.held c.args.sector.now, ap length c.as_bytes-bytes.ensures.bytes)
-
-pub slice_bounds-convert_one-start : goal.slice_bounds-convert_one-start
-slice_bounds-convert_one-start g c = omega (arith, c.requires, length-append c.args.held c.args.sector.now, ap length c.as_bytes-bytes.ensures.bytes)
 
 among : (S T : Meaning) → Laws S → (held sector view out out' : List ℕ) (at : ℕ) (r : Result Step Fault) → view ≡ take 4 (drop at (held ++ sector)) → Steps S T view out out' r → Steps S T (drop at (held ++ sector)) out out' r
 among S T l held sector view out out' at r v st = steps_four T l (drop at (held ++ sector)) out out' r (rw v at st)
