@@ -3,7 +3,7 @@ use charset::{CharacterSet, Reading, SetRefusal};
 use std::process::Abort;
 use std::test::Fail;
 
-pub fn reads<S: CharacterSet>(
+pub(crate) fn reads<S: CharacterSet>(
     rt: &impl Abort,
     set: &S,
     bytes: &[u8],
@@ -13,15 +13,21 @@ pub fn reads<S: CharacterSet>(
     assert_eq!(rt; set.read(bytes), Ok(Reading::Found { character, length }));
 }
 
-pub fn opens<S: CharacterSet>(rt: &impl Abort, set: &S, bytes: &[u8]) {
+pub(crate) fn opens<S: CharacterSet>(rt: &impl Abort, set: &S, bytes: &[u8]) {
     assert_eq!(rt; set.read(bytes), Ok(Reading::Open));
 }
 
-pub fn refuses<S: CharacterSet>(rt: &impl Abort, set: &S, bytes: &[u8], cause: u8, depth: u8) {
+pub(crate) fn refuses<S: CharacterSet>(
+    rt: &impl Abort,
+    set: &S,
+    bytes: &[u8],
+    cause: u8,
+    depth: u8,
+) {
     assert_eq!(rt; set.read(bytes), Err(SetRefusal { cause, depth }));
 }
 
-pub fn writes<S: CharacterSet>(
+pub(crate) fn writes<S: CharacterSet>(
     rt: &impl Abort,
     set: &S,
     number: u32,
@@ -32,6 +38,6 @@ pub fn writes<S: CharacterSet>(
     Ok(())
 }
 
-pub fn writes_nothing<S: CharacterSet>(rt: &impl Abort, set: &S, number: u32) {
+pub(crate) fn writes_nothing<S: CharacterSet>(rt: &impl Abort, set: &S, number: u32) {
     assert!(rt; set.write(number).is_none());
 }
