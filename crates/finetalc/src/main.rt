@@ -1,15 +1,15 @@
-// Reads a page of 8-bit ISO/IEC 6937 from standard input, and writes it in UTF-8 with a line on how it went.
+// Reads a roll from standard input, and writes the text of its pages in UTF-8 with a line on how each went.
 #![tactic(auto)]
 
-use page::{LONGEST_PAGE, report};
+use report::{LONGEST_INPUT, report};
 use std::io::{Read, Write};
 
 fn run(rt: &HostRuntime) -> anyhow::Result<()> {
     let heap = rt.alloc();
     let mut input = Vec::new(heap);
-    // One byte more than a page may have tells a longer input.
+    // One byte more than a report reads tells a longer input.
     rt.stdin()
-        .take(LONGEST_PAGE as u64 + 1)
+        .take(LONGEST_INPUT as u64 + 1)
         .read_to_end(&mut input)?;
     let output = report(heap, &input)?;
     rt.stdout().write_all(&output)?;

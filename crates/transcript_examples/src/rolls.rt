@@ -53,6 +53,21 @@ fn forms(rt: HostRuntime) -> Result<(), Fail> {
     shows(&rt, 7, b"a=b\xC2e", b"a=b\n1 7 3 6@3\n")
 }
 
+// Pages of ISO/IEC 6937, read to their end and not.
+#[test]
+fn page_ends(rt: HostRuntime) -> Result<(), Fail> {
+    shows(&rt, 1, b"\xC2e\xCAA", b"\xC3\xA9\xC3\x85\n1 1 2 ok\n")?;
+    shows(
+        &rt,
+        1,
+        b"\xD5\xE0 \xC5 ",
+        b"\xE2\x99\xAA\xE2\x84\xA6 \xC2\xAF\n1 1 4 ok\n",
+    )?;
+    shows(&rt, 1, b"ab\xC2b", b"ab\n1 1 2 6@2\n")?;
+    shows(&rt, 1, b"\xC2e\x0Bx", b"\xC3\xA9\n1 1 1 6@2\n")?;
+    shows(&rt, 1, b"Antoni\xC2", b"Antoni\n1 1 6 9@6\n")
+}
+
 // All forms in one roll.
 #[test]
 fn eight_forms(rt: HostRuntime) -> Result<(), Fail> {

@@ -7,6 +7,4 @@ mod asserts;
 mod layer_examples;
 mod odd;
 #[cfg(test)]
-mod page_examples;
-#[cfg(test)]
 mod set_examples;

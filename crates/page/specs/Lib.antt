@@ -1,3 +1,0 @@
-pub mod Stops
-pub mod Next
-pub mod Report
