@@ -5,7 +5,9 @@ import sys
 def keep(path, lines, origin):
     """Writes the file, or with --check fails if it is not what would be written."""
     text = "".join(line + "\n" for line in lines)
-    if sys.argv[1:] != ["--check"]:
+    if sys.argv[1:] not in ([], ["--check"]):
+        sys.exit("usage: %s [--check]" % sys.argv[0])
+    if not sys.argv[1:]:
         path.write_text(text)
     elif path.read_text() != text:
-        sys.exit("%s: %s is not what %s" % (sys.argv[0], path.name, origin))
+        sys.exit("%s: %s is not what %s; run it without --check to write it anew" % (sys.argv[0], path, origin))

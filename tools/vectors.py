@@ -109,7 +109,7 @@ def malformed():
 
 
 def coded(number):
-    """The octets of a character as a number, by Python's own encoder; None for a surrogate."""
+    """The octets of a character, by Python's own encoder; None for a surrogate."""
     if 0xD800 <= number < 0xE000:
         return None
     return chr(number).encode("utf-8")

@@ -55,8 +55,8 @@ impl From<FaultAt> for Refusal {
     }
 }
 
-// A refusal by its number, with the values that come with it, numbers and no enum, as the table of refusals lists them; those that do not are 0. `standing` is the number of a fault that
-// stood already.
+// A refusal by its number and its values, as the table of refusals lists them: numbers and no enum. A value that does not come with the number is 0.
+// `standing` is the number of the fault that stood already.
 #[derive(Clone, Copy, PartialEq, Eq, Debug, Default)]
 pub struct Told {
     pub number: u8,

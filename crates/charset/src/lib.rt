@@ -15,7 +15,7 @@ pub use by_laws::read_front;
 pub use coding::Coding;
 pub use front::Front;
 
-// Why a string cannot be read: the number of the cause, and how many layers above the one that refused it. A number and no enum, since
+// Why a string cannot be read: the number of the cause, and how many layers lie above the one that refused. A number and no enum, since
 // any set may have causes of its own.
 #[derive(Clone, Copy, PartialEq, Eq, Debug)]
 pub struct SetRefusal {
@@ -41,9 +41,11 @@ pub trait CharacterSet {
     // The cause of a string that is no opening and has no coding in front.
     ghost causes: { Self → List ℕ → SetRefusal };
 
+    // What stands in front of the bytes: a character's coding, or an opening alone; else the cause.
     fn read(&self, bytes: &[u8]) -> Result<Reading, SetRefusal>
         ensures { Reads (meaning (codings self.now) (openings self.now) (causes self.now)) bytes.now result };
 
+    // The coding of the character of that number, if it has one.
     fn write(&self, number: u32) -> Option<Coding>
         ensures { Writes (meaning (codings self.now) (openings self.now) (causes self.now)) number result };
 

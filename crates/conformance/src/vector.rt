@@ -132,7 +132,8 @@ impl FromStr for Vector {
         let answer = word()?;
         let (question, answer) = match kind {
             "read" => (Question::Read { width: first.len() }, read_answer(answer)?),
-            _ => (Question::Write, write_answer(answer)?),
+            "write" => (Question::Write, write_answer(answer)?),
+            _ => return Err(NotAVector),
         };
         Ok(Vector {
             set,

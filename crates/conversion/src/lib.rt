@@ -98,8 +98,7 @@ pub fn convert_one<S: CharacterSet, T: CharacterSet>(
 }
 
 // The character that stands `at` bytes behind the start of the held bytes and then the sector, which stay two parameters: a transcript holds the
-// one and is lent the other. As long as it begins among the held
-// bytes it is read from a copy of the four bytes there, which decide it.
+// one and is lent the other. A character that begins among the held bytes is read from a copy of the four bytes there, which decide it.
 fn convert_at<S: CharacterSet, T: CharacterSet>(
     source: &S,
     target: &T,

@@ -1,5 +1,5 @@
 -- The text of a page. Assumes nothing.
-use Rattle.std.specs.Prelude.{◌≡◌, ℕ, ◌<◌, ◌⊎◌, List, [], length, Some, None, Ok, Err, vec_items, Option, Result, ◌≢◌}
+use Rattle.std.specs.Prelude.{◌≡◌, ℕ, ◌<◌, ◌≤◌, ◌⊎◌, List, [], length, Some, None, Ok, Err, vec_items, Option, Result, ◌≢◌}
 use Rattle.charset.specs.Meaning.{Meaning}
 use Rattle.sets.specs.Utf8.{utf8}
 use Rattle.conversion.specs.declared.Fault.{Fault}
@@ -44,6 +44,6 @@ IsEmptyText form r t = (t.form ≡ form) × (vec_items t.text ≡ []) × (t.char
 -- a page of text is transcribed by its form, unless it is longer than a source may be, and so than any roll; a picture has no text
 abbrev pub IsPageText : ℕ → Page → (text : List ℕ) → (characters : ℕ) → Result (Unit {0}) RollFault → Type 0
 IsPageText n (Text f part at) text characters r =
-    ((o : Outcome) × TextIn (form_set f) part.now text characters o × (r ≡ on_page n o))
+    ((length part.now ≤ 4294967296) × (o : Outcome) × TextIn (form_set f) part.now text characters o × (r ≡ on_page n o))
     ⊎ ((4294967296 < length part.now) × (text ≡ []) × (characters ≡ 0) × (r ≡ Err WrongSize))
 IsPageText n (Picture part at) text characters r = (text ≡ []) × (characters ≡ 0) × (r ≡ Ok tt)

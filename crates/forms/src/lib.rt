@@ -4,7 +4,7 @@
 ghost use Rattle.std.specs.Prelude.{◌≡◌, ◌<◌, length, IfOk, Ok, Err};
 ghost use Rattle.charset.specs.Sets.{set_of};
 ghost use Rattle.layers.specs.Layers.{controls};
-ghost use Rattle.transcription.specs.declared.Failure.TheVariants.{TooLong};
+ghost use Rattle.transcription.specs.Failures.{IsTooLongOrWanting};
 ghost use Rattle.transcription.specs.Carried.{fault_in};
 ghost use Rattle.forms.specs.Examples.{WorkedExamples};
 ghost use Rattle.forms.specs.Forms.{form_set};
@@ -15,7 +15,6 @@ use answers::FaultAt;
 use charset::CharacterSet;
 use layers::{CharacterList, with_controls, with_list, with_parity, with_shift};
 use page_stacks::PAGE_CONTROLS;
-pub use page_stacks::{read_three_deep, read_with_parity};
 use pages::{Form, Page, RollFault};
 use sets::{Iso6937, SingleByte, Utf8};
 use std::alloc::{AllocError, Global};
@@ -28,7 +27,7 @@ fn with_page_controls<S: CharacterSet + Drop>(
     bytes: &[u8],
 ) -> Result<Transcription, Failure>
     ensures text { IfOk result (λ p. TextOf (controls page_controls (set_of S.CharacterSet below)) bytes.now p) }
-    ensures too_long { result ≡ Err TooLong → 4294967296 < length bytes.now }
+    ensures too_long { IsTooLongOrWanting bytes.now result }
 {
     transcribe(heap, with_controls(PAGE_CONTROLS, below), Utf8, bytes)
 }
@@ -37,7 +36,7 @@ fn with_page_controls<S: CharacterSet + Drop>(
 #[tactic(auto, using(crate::proofs::Shown::worked_examples))]
 pub fn form_text(heap: Global, form: Form, bytes: &[u8]) -> Result<Transcription, Failure>
     ensures text { IfOk result (λ p. TextOf (form_set form) bytes.now p) }
-    ensures too_long { result ≡ Err TooLong → 4294967296 < length bytes.now }
+    ensures too_long { IsTooLongOrWanting bytes.now result }
     ensures always_written { IfOk result (λ p. AlwaysWritten (fault_in p.outcome)) }
     ensures worked_examples { WorkedExamples }
 {

@@ -59,7 +59,7 @@ sub ds m = record {
   causes = λ s. over (reading m s) (refusal NotListed);
 }
 
--- Controls: of those that are chosen, each that the set below neither reads nor writes
+-- Controls: of those that are chosen, each that the set below refuses alone and does not write
 -- chosen is a choice of 00 to 1F, by number
 abbrev pub added : List Bool → Meaning → ℕ → Bool
 added chosen m c = (nat_lt c 0x20 && slice_index_or chosen c false) && (is_err (reading m (c ∷ [])) && is_none (m.codings.string c))

@@ -9,9 +9,9 @@ use charset::SetRefusal;
 pub enum Cause {
     // A byte has an odd number of ones.
     OddParity = 34,
-    // A byte cannot follow what was shifted.
+    // A byte from 80 up, or 19 before anything but 20 to 7F.
     NotShifted = 35,
-    // Four bytes are an opening still.
+    // Still open after four bytes.
     TooLong = 36,
     // A character is not on the list.
     NotListed = 37,

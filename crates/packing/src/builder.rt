@@ -7,7 +7,7 @@ use crate::refusal::PackRefusal;
 use std::alloc::{AllocError, Global};
 use std::marker::Model;
 
-// The limits of the format are written here again: this crate stands on no other, and `roll` on what reads rolls.
+// The limits of the format are written here again, so that this crate needs nothing of what reads rolls.
 const LAST_FORM: u8 = 7;
 
 const MOST_PAGES: usize = 1_024;

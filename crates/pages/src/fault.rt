@@ -32,8 +32,8 @@ impl From<(u32, FaultAt)> for RollFault {
     }
 }
 
-// A refusal by its number, with the values that come with it; those that do not are 0.
-// Numbers and no enum: this is what an answer prints and a table of refusals lists.
+// A refusal by its number and its values, as an answer prints them and the table of refusals lists them: numbers and no enum. A value that does
+// not come with the number is 0.
 #[derive(Clone, Copy, PartialEq, Eq, Debug, Default)]
 pub struct RollTold {
     pub number: u8,

@@ -17,7 +17,7 @@ pub enum Form {
     Sami,
     // UTF-8.
     Unicode,
-    // The 74 characters of a new list, in ISO/IEC 6937.
+    // The 74 characters that every list has, in ISO/IEC 6937.
     Basic,
 }
 

@@ -2,6 +2,7 @@
 ghost use Rattle.std.specs.Prelude.{◌≡◌, ◌+◌, ◌<◌, ◌≤◌, length};
 ghost use Rattle.roll.specs.Format.{word, index_offset, page_count, starts, Indexed};
 
+use crate::{ENTRY_BYTES, LAST_FORM};
 use pages::RollFault;
 
 // Four bytes as a number, the highest first.
@@ -12,8 +13,8 @@ pub(crate) fn word_at(bytes: &[u8], at: usize) -> u32
     u32::from_be_bytes([bytes[at], bytes[at + 1], bytes[at + 2], bytes[at + 3]])
 }
 
-// What an entry tells, whether it keeps the rules or not: where its page begins and ends, its form by any number, and whether the three bytes behind
-// are 00.
+// What an entry tells, whether it keeps the rules or not: where its page begins and ends, its form, whatever number that is, and whether the three
+// bytes behind are 00.
 #[derive(Clone, Copy)]
 pub(crate) struct Entry {
     pub(crate) offset: usize,
@@ -43,7 +44,7 @@ impl Index<'_> {
         ensures { EntryAt self.now.bytes.now place result }
     {
         let bytes = self.bytes;
-        let at = self.start + 12 * place;
+        let at = self.start + ENTRY_BYTES * place;
         let offset = word_at(bytes, at) as usize;
         Entry {
             offset,
@@ -61,7 +62,7 @@ impl Index<'_> {
     {
         let entry = self.entry(place);
         let holds = entry.offset == start
-            && entry.form <= 7
+            && entry.form <= LAST_FORM
             && entry.padded
             && (place + 1 != self.count || entry.end == self.start);
         if !holds {

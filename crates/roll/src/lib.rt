@@ -14,3 +14,10 @@ pub const SMALLEST_ROLL: usize = 16;
 pub const LARGEST_ROLL: usize = 1_048_576;
 
 pub const MOST_PAGES: usize = 1_024;
+
+// The parts of the format.
+const ENTRY_BYTES: usize = 12;
+
+const TRAILER_BYTES: usize = 16;
+
+const LAST_FORM: u8 = 7;

@@ -6,7 +6,7 @@ ghost use Rattle.std.proofs.Props.{props};
 
 use crate::each_page::Pages;
 use crate::index::{Index, word_at};
-use crate::{LARGEST_ROLL, MOST_PAGES, SMALLEST_ROLL};
+use crate::{ENTRY_BYTES, LARGEST_ROLL, MOST_PAGES, SMALLEST_ROLL, TRAILER_BYTES};
 use pages::{Form, Page, RollFault};
 
 // The letters ROLL.
@@ -35,9 +35,9 @@ impl<'a> Roll<'a> {
         if word_at(bytes, len - 4) != MARK {
             return Err(RollFault::NoMark);
         }
-        let start = word_at(bytes, len - 16) as usize;
+        let start = word_at(bytes, len - TRAILER_BYTES) as usize;
         let count = word_at(bytes, len - 12) as usize;
-        if count > MOST_PAGES || start + 12 * count + 16 != len {
+        if count > MOST_PAGES || start + ENTRY_BYTES * count + TRAILER_BYTES != len {
             return Err(RollFault::WrongIndex);
         }
         let index = Index {

@@ -2,14 +2,17 @@
 #![tactic(auto)]
 
 use anyhow::{Context, bail};
-use packing::Builder;
+use packing::{Builder, PackRefusal};
 use std::io::Write;
 use std::{env, fs};
+
+const USAGE: &str =
+    "usage: rollmake FORM FILE [FORM FILE ..] > ROLL, each form a number from 0 to 7 (docs/ROLLS.md lists them)";
 
 fn pack(rt: &HostRuntime) -> anyhow::Result<()> {
     let words: Vec<String> = env::args(rt)?.skip(1).collect(rt.alloc())?;
     if words.is_empty() {
-        bail!("usage: rollmake FORM FILE [FORM FILE ..] > ROLL");
+        bail!("{USAGE}");
     }
     let mut builder = Builder::new(rt.alloc());
     for pair in words.chunks(2) {
@@ -17,10 +20,12 @@ fn pack(rt: &HostRuntime) -> anyhow::Result<()> {
             .as_str()
             .parse::<u8>()
             .ok()
-            .context("a form is a number from 0 to 7")?;
+            .context(PackRefusal::UnknownForm)?;
         let file = pair.get(1).context("the last form has no file")?;
-        let page = fs::read(rt, file.as_str())?;
-        builder = builder.with_page(form, &page)?;
+        let page = fs::read(rt, file.as_str()).context(format_args!("cannot read {file}"))?;
+        builder = builder
+            .with_page(form, &page)
+            .context(format_args!("cannot pack {file}"))?;
     }
     let roll = builder.finish()?;
     rt.stdout().write_all(&roll)?;

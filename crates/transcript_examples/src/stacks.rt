@@ -1,6 +1,6 @@
 // Stacks by their type alone.
 use charset::{Reading, SetRefusal};
-use forms::{read_three_deep, read_with_parity};
+use page_stacks::{read_three_deep, read_with_parity};
 use sets::Iso6937;
 use std::test::*;
 

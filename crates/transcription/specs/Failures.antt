@@ -9,6 +9,12 @@ IsTooLong bytes (Ok p) = length bytes ≤ 4294967296
 IsTooLong bytes (Err NoMemory) = length bytes ≤ 4294967296
 IsTooLong bytes (Err TooLong) = 4294967296 < length bytes
 
+-- the same where memory may be wanting before that is looked at
+abbrev pub IsTooLongOrWanting : {X : Type 0} → List ℕ → Result X Failure → Type 0
+IsTooLongOrWanting bytes (Ok p) = length bytes ≤ 4294967296
+IsTooLongOrWanting bytes (Err NoMemory) = Unit {0}
+IsTooLongOrWanting bytes (Err TooLong) = 4294967296 < length bytes
+
 abbrev pub message : Failure → List ℕ
 message NoMemory = codes "out of memory"
 message TooLong = codes "the text is too long"
