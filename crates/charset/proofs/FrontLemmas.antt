@@ -2,13 +2,18 @@
 use Rattle.std.proofs.Common.{◌≡◌, ℕ, zero, suc, ◌+◌, ◌<◌, ◌≤◌, min, Bool, true, false, List, [], ◌∷◌, ◌++◌, length, take, Some, None, Ok, Err, Option, sym, refl, ap, ◌∙◌, inl, inr, arith, length-take, length-take-le, take_all, take-take}
 use native.Mathlib.Nat.{zero-min, min-zero, suc-min-suc}
 use lib.Seq.{take-append-le}
-use Rattle.std.proofs.lemmas.Bool.{cases_lt, cases_order, both_ways}
+use Rattle.std.specs.Option.{is_none}
+use Rattle.std.proofs.lemmas.Option.{none-some}
+use Rattle.std.proofs.lemmas.List.{take_min as take_least}
+use Rattle.std.proofs.lemmas.Bool.{cases_lt, cases_order, both_ways, false_from_ne_true}
 use Rattle.charset.specs.declared.Reading.TheVariants.{Found, Open}
 use Rattle.charset.specs.Meaning.{Meaning, Codes, Opens, NoFront, Unreadable, Laws}
 use Rattle.charset.specs.Answers.{Answer, Reads, found, unread, look, reading, OnlyAnswer, FourBytesDecide}
 
-pub none_some : {A : Type 0} {x : A} → None ≡ Some x → ⊥
-none_some e = let z : ◌≡◌ {A = ℕ} 0 1 = cc in omega arith
+-- an option of no value
+pub no_value : {A : Type 0} (o : Option A) → is_none o ≡ true → o ≡ None
+no_value None e = refl
+no_value (Some x) e = cc
 
 -- a beginning of a beginning is a beginning
 pub take_min : {A : Type 0} (j n : ℕ) (s : List A) → take j (take n s) ≡ take (min j n) s
@@ -16,11 +21,6 @@ take_min zero n s = rw zero-min
 take_min (suc j) zero s = rw min-zero
 take_min (suc j) (suc n) [] = rw suc-min-suc
 take_min (suc j) (suc n) (x ∷ s) = rw (suc-min-suc, take_min j n s)
-
-pub take_self : {A : Type 0} (s : List A) (j : ℕ) → take (length (take j s)) s ≡ take j s
-take_self s zero = refl
-take_self [] (suc j) = refl
-take_self {A} (x ∷ s) (suc j) = ap {B = List A} (λ t. x ∷ t) (take_self s j)
 
 take_all_of : {A : Type 0} (j n : ℕ) (s : List A) → n ≤ j → take j (take n s) ≡ take n s
 take_all_of j n s h = take_all j (take n s) (rw (length-take n s) (omega arith))
@@ -32,6 +32,10 @@ alone m begins bare s c d n h k = elim (cases_lt n (length s)) [
   | inl g ↦ absurd (bare (take n s) (begins s c n h g) n d (rw (take_all_of n n s (omega arith)) k))
   | inr g ↦ take_all n s g
 ]
+
+-- openings that begin with openings, none of them a coding, begin with no coding
+pub no_front_by : (m : Meaning) → ((s : List ℕ) (n : ℕ) → Opens m s → Opens m (take n s)) → ((s : List ℕ) (c : ℕ) → Opens m s → Codes m s c → ⊥) → (s : List ℕ) → Opens m s → NoFront m s
+no_front_by m begins bare s o n c p = bare (take n s) c (begins s n o) p
 
 module _ {m : Meaning} (l : Laws m) where
   bare : (s : List ℕ) (c : ℕ) → Codes m s c → Opens m s → ⊥
@@ -69,7 +73,7 @@ module _ {m : Meaning} (l : Laws m) where
       go : (o : Option ℕ) → m.codings.character (take n s) ≡ o → (suc n + k ≡ 5 → ((j c : ℕ) → j < suc n → Codes m (take j s) c → ⊥) → Reads m s (look m s (suc n) k)) → Reads m s (found o n (look m s (suc n) k))
       go None f more = more (omega arith) (λ j c h p. elim (cases_lt j n) [
         | inl g ↦ none_yet j c g p
-        | inr g ↦ let j_is : j ≡ n = omega arith in none_some (sym f ∙ (rw j_is at p))
+        | inr g ↦ let j_is : j ≡ n = omega arith in none-some _ (sym f ∙ (rw j_is at p))
       ])
       go (Some c) f more = elim (cases_lt (length s) n) [
         | inl g ↦ absurd (none_yet (length s) c g (rw (take_all (length s) s (omega arith)) (rw (take_all n s (omega arith)) at f)))
@@ -103,10 +107,6 @@ module _ {m : Meaning} (l : Laws m) where
   no_front_begins : (s : List ℕ) (n : ℕ) → NoFront m s → NoFront m (take n s)
   no_front_begins s n h j c p = h (min j n) c (rw take_min at p)
 
-  pub open_apart : (s : List ℕ) (b : Bool) → m.openings s ≡ b → (Opens m s → ⊥) → m.openings s ≡ false
-  open_apart s true e h = absurd (h e)
-  open_apart s false e h = e
-
   -- reading looks at four bytes at most
   pub reading_four : (s : List ℕ) (n : ℕ) → 4 ≤ n → reading m (take n s) ≡ reading m s
   reading_four s n four = reading_is (take n s) (reading m s) (go (reading m s) (reading_reads s))
@@ -121,7 +121,7 @@ module _ {m : Meaning} (l : Laws m) where
             no_front_begins s n h.0.0,
             elim (cases_lt (length s) n) [
               | inl g ↦ rw (take_all n s (omega arith)) h.0.1
-              | inr g ↦ open_apart (take n s) _ refl (λ o. omega (arith, l.opening_sized (take n s) o, length-take-le n s g))
+              | inr g ↦ false_from_ne_true _ (λ o. omega (arith, l.opening_sized (take n s) o, length-take-le n s g))
             ],
           ) in
           (bad, h.1 ∙ l.cause_stays s n bad)
@@ -135,13 +135,21 @@ module _ {m : Meaning} (l : Laws m) where
 
   -- what has a cause has it whatever follows
   pub bad_grows : (s : List ℕ) (n : ℕ) → Unreadable m (take n s) → Unreadable m s
-  bad_grows s n h = (never, open_apart s _ refl (λ o. both_ways _ h.1 (l.opening_begins s n o)))
+  bad_grows s n h = (never, false_from_ne_true _ (λ o. both_ways _ h.1 (l.opening_begins s n o)))
     where
       never : NoFront m s
       never j c p = elim (cases_lt n (length (take j s))) [
         | inl g ↦ both_ways _ h.1 (rw (take-take n j s (omega (arith, length-take j s))) at (l.coding_begins (take j s) c n p g))
-        | inr g ↦ h.0 (length (take j s)) c (rw (take-take (length (take j s)) n s g) (rw (sym (take_self s j)) at p))
+        | inr g ↦ h.0 (length (take j s)) c (rw (take-take (length (take j s)) n s g, length-take j s, take_least j s) p)
       ]
+
+  -- an answer other than "more is needed" stays whatever follows
+  pub answer_grows : (s : List ℕ) (n : ℕ) (r : Answer) → (r ≡ Ok Open → ⊥) → Reads m (take n s) r → Reads m s r
+  answer_grows s n (Ok (Found c k)) d h =
+      let k_fits : k ≤ min n (length s) = rw (← length-take n s) h.0 in
+      (omega arith, rw (← take-take k n s (omega arith)) h.1)
+  answer_grows s n (Ok Open) d h = absurd (d refl)
+  answer_grows s n (Err q) d h = (bad_grows s n h.0, h.1 ∙ sym (l.cause_stays s n h.0))
 
   pub reading_bad : (s : List ℕ) → Unreadable m s → reading m s ≡ Err (m.causes s)
   reading_bad s h = reading_is s (Err (m.causes s)) (h, refl)
@@ -160,6 +168,6 @@ module _ {m : Meaning} (l : Laws m) where
     where
       never : NoFront m (take (suc n) s)
       never j c p = elim (cases_lt n j) [
-        | inl h ↦ none_some (sym none ∙ (rw (take_all_of j (suc n) s h) at p))
+        | inl h ↦ none-some _ (sym none ∙ (rw (take_all_of j (suc n) s h) at p))
         | inr h ↦ l.opening_bare (take n s) o j c (rw (take-take j n s h) (rw (take-take j (suc n) s (omega arith)) at p))
       ]
