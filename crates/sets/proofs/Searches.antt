@@ -12,14 +12,14 @@ use Rattle.std.proofs.iter.Yields.{nat_range_steps}
 use Rattle.std.specs.Iterator.Adapters.{map_source, map_callee}
 use Rattle.std.proofs.lemmas.Iterator.Adapters.{option_map_id}
 use Rattle.std.proofs.lemmas.Iterator.Search.{find_from_yields_List}
+use Rattle.std.proofs.lemmas.Option.{same_Some}
 use denote.Param.Members.{Mut}
 use Rattle.sets.specs.Search.{when, or_else, first_in, first_from}
-use Rattle.sets.specs.Tables.{no_none, some_same}
 
 -- ---- `find_map`
 
 or_same : {D : Type 0} (o r : Option D) → is_some o ≡ true → or_else o r ≡ o
-or_same None r t = absurd (let z : ◌≡◌ {A = ℕ} 0 1 = cc in omega arith)
+or_same None r t = cc
 or_same (Some x) r t = refl
 
 module _ {A D : Type 0} (h : A → Option D) where
@@ -46,8 +46,8 @@ module _ {A C D F S : Type 0} {steps : S → Option (Bor A) → S → Type 0} {g
   answered f seen h calls p xs items k d o l c = go (p.at k) (items.2 k d l) c
     where
       go : (a : Option (Bor A)) → option_map (λ y. y.now) a ≡ Some (slice_index_or xs k d) → IfSome a (λ x. Called g f (x, tt) o f) → h (slice_index_or xs k d) ≡ seen o
-      go None e m = absurd (no_none e)
-      go (Some x) e m = rw (← some_same e) (sym (calls x o f m).1)
+      go None e m = cc
+      go (Some x) e m = rw (← same_Some _ _ e) (sym (calls x o f m).1)
 
   -- the first answer of f along a list
   pub first_answer : {f : F} {s : S} (rest : S → List A) (h : A → Option D) (seen : Option C → Option D) → seen None ≡ None → ((y : C) → is_some (seen (Some y)) ≡ true) → Answers g f seen h

@@ -8,7 +8,7 @@ module _ (p : ℕ → Bool) where
   -- what is found passes, and lies where it was looked for
   pub first_passes : (b n k : ℕ) → first_from p b n ≡ Some k → (b ≤ k) × (k < b + n) × (p k ≡ true)
   unfolding first_from
-  first_passes b zero k e = absurd (let z : ◌≡◌ {A = ℕ} 0 1 = cc in omega arith)
+  first_passes b zero k e = cc
   first_passes b (suc n) k e = go (p b) refl e (first_passes (suc b) n k)
     where
       go : (t : Bool) → p b ≡ t → or_else (when t b) (first_from p (suc b) n) ≡ Some k → (first_from p (suc b) n ≡ Some k → (suc b ≤ k) × (k < suc b + n) × (p k ≡ true)) → (b ≤ k) × (k < b + suc n) × (p k ≡ true)

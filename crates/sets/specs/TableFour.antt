@@ -1,36 +1,33 @@
 -- Table 4 is one to one, by tests over the whole of it that antt computes. Assumes nothing.
-use Rattle.std.specs.Prelude.{◌≡◌, ℕ, ◌<◌, Bool, true, false, cond, not, ◌&&◌, List, [], ◌∷◌, is_some, Some, None, Option, ◌==◌, nat_lt, refl}
-use Rattle.std.proofs.Common.{ap, ◌∙◌, arith}
+use Rattle.std.specs.Prelude.{◌≡◌, ℕ, ◌<◌, Bool, true, ◌&&◌, List, [], ◌∷◌, Some, None, Option, ◌==◌, nat_lt, refl}
+use Rattle.std.proofs.Common.{ap, ◌∙◌}
 use Rattle.std.proofs.Math.Path.{subst₃}
-use Rattle.std.specs.Option.{option_map}
+use Rattle.std.specs.Option.{option_map, is_none}
+use Rattle.charset.proofs.FrontLemmas.{no_value}
 use Rattle.std.proofs.lemmas.Bool.{and_parts, ltb-true}
-use Rattle.std.proofs.lemmas.Bool.Decides.{nat_tests}
-use Rattle.sets.specs.Search.{when, first_from, every_from}
-use Rattle.sets.specs.Columns.{ascii, upper_at, is_character, one_to_one}
+use Rattle.std.proofs.lemmas.Option.{same_Some}
+use Rattle.sets.specs.Search.{when, first_from}
+use Rattle.sets.specs.Columns.{is_character, one_to_one}
 use Rattle.sets.specs.Iso6937Table.{supplementary, diacritics}
 use Rattle.sets.specs.Iso6937.{single, letters_of, by_letter, by_character, letter_of, among, pair, pair_of, iso6937_string}
-use Rattle.sets.specs.CodeTable.{is_this, upper_byte, placed}
-use Rattle.sets.specs.Tables.{no_none, no_true, some_same, when_some, every, found_passes, every_at, is_string, is_string_true}
+use Rattle.sets.specs.CodeTable.{is_this, placed, all_low, low_at}
+use Rattle.sets.specs.Tables.{when_some, every, found_passes, is_string, is_string_true}
 
 -- the supplementary set: no character twice, and none beyond the surrogates
 one_place : one_to_one supplementary ≡ true
 unfolding one_to_one supplementary first_from
 one_place = refl
 
-abbrev low : Option ℕ → Bool
-low None = true
-low (Some c) = nat_lt c 0xd800
-
-all_low : every_from (λ b. low (upper_at supplementary b)) 0xa0 96 ≡ true
+supplementary_low : all_low supplementary ≡ true
 unfolding supplementary
-all_low = refl
+supplementary_low = refl
 
 -- the pairs: a pair's character is coded by the pair, the pair codes it, and a diacritic codes nothing alone
 abbrev letter_test : ℕ → ℕ × ℕ → Bool
 letter_test mark p = (is_string (mark ∷ p.0 ∷ []) (iso6937_string p.1) && is_character p.1 (pair mark p.0)) && (nat_lt p.0 256 && nat_lt p.1 0xd800)
 
 diacritic_test : ℕ × List (ℕ × ℕ) → Bool
-diacritic_test d = (nat_lt d.0 256 && not (is_some (single d.0))) && every (letter_test d.0) d.1
+diacritic_test d = (nat_lt d.0 256 && is_none (single d.0)) && every (letter_test d.0) d.1
 
 diacritics_tested : every diacritic_test diacritics ≡ true
 unfolding diacritic_test supplementary diacritics first_from
@@ -45,14 +42,7 @@ pub record Single (b c : ℕ) : Type 0 where
 pub single_at : (b c : ℕ) → single b ≡ Some c → Single b c
 single_at b c e =
     let p = placed supplementary one_place b c e in
-    record { byte = p.byte; coded = rw p.back refl; low = below (ascii b) refl e }
-  where
-    below : (t : Bool) → ascii b ≡ t → cond t (Some b) (upper_at supplementary b) ≡ Some c → c < 0xd800
-    below true h f = let same : b ≡ c = some_same f in grind (arith, nat_tests)
-    below false h f =
-        let range = upper_byte supplementary b c f in
-        let here : low (Some c) ≡ true = rw f at (every_at (λ x. low (upper_at supplementary x)) 0xa0 96 b all_low range.0 range.1) in
-        ltb-true c 0xd800 here
+    record { byte = p.byte; coded = rw p.back refl; low = low_at supplementary supplementary_low b c e }
 
 -- a diacritic and a letter, and the character that they code
 pub record Accented (mark letter c : ℕ) : Type 0 where
@@ -61,13 +51,6 @@ pub record Accented (mark letter c : ℕ) : Type 0 where
   pub stands : pair mark letter ≡ Some c
   pub coded : iso6937_string c ≡ Some (mark ∷ letter ∷ [])
   pub low : c < 0xd800
-
-accented_same : {m n l k c d : ℕ} → m ≡ n → l ≡ k → c ≡ d → Accented m l c → Accented n k d
-accented_same e f g h = subst₃ Accented e f g h
-
-is_none : {A : Type 0} (o : Option A) → not (is_some o) ≡ true → o ≡ None
-is_none None e = refl
-is_none (Some x) e = absurd (no_true e)
 
 -- what the test tells of a diacritic
 record Tested (d : ℕ × List (ℕ × ℕ)) : Type 0 where
@@ -78,9 +61,9 @@ record Tested (d : ℕ × List (ℕ × ℕ)) : Type 0 where
 tested : (d : ℕ × List (ℕ × ℕ)) → diacritic_test d ≡ true → Tested d
 unfolding diacritic_test
 tested d t =
-    let a = and_parts (nat_lt d.0 256 && not (is_some (single d.0))) (every (letter_test d.0) d.1) t in
-    let b = and_parts (nat_lt d.0 256) (not (is_some (single d.0))) a.0 in
-    record { mark_byte = ltb-true d.0 256 b.0; alone = is_none (single d.0) b.1; letters = a.1 }
+    let a = and_parts (nat_lt d.0 256 && is_none (single d.0)) (every (letter_test d.0) d.1) t in
+    let b = and_parts (nat_lt d.0 256) (is_none (single d.0)) a.0 in
+    record { mark_byte = ltb-true d.0 256 b.0; alone = no_value (single d.0) b.1; letters = a.1 }
 
 accented_entry : (d : ℕ × List (ℕ × ℕ)) (p : ℕ × ℕ) → Tested d → letter_test d.0 p ≡ true → Accented d.0 p.0 p.1
 accented_entry d p t u =
@@ -109,14 +92,14 @@ pub accented_at : (mark letter c : ℕ) → pair mark letter ≡ Some c → Acce
 accented_at mark letter c e = go (letters_of mark) refl e
   where
     go : (o : Option (List (ℕ × ℕ))) → letters_of mark ≡ o → among letter o ≡ Some c → Accented mark letter c
-    go None f g = absurd (no_none g)
+    go None f g = cc
     go (Some ps) f g =
         let h = marked mark ps f in
         let d = h.0 in
         let k = found_passes (letter_test d.0) (by_letter letter) d.1 c h.1.letters (rw h.3 g) in
         let p = k.0 in
         let at_letter = when_some p.0 letter p.1 c k.2 in
-        accented_same h.2 at_letter.0 at_letter.1 (accented_entry d p h.1 k.1)
+        subst₃ Accented h.2 at_letter.0 at_letter.1 (accented_entry d p h.1 k.1)
 
 pub accented_of : (mark letter c : ℕ) → pair_of c ≡ Some (mark, letter) → Accented mark letter c
 accented_of mark letter c e =
@@ -124,12 +107,12 @@ accented_of mark letter c e =
     go h.0 (tested h.0 h.1) (letter_of c h.0.1) refl h.2
   where
     go : (d : ℕ × List (ℕ × ℕ)) → Tested d → (o : Option ℕ) → letter_of c d.1 ≡ o → option_map {U = ℕ × ℕ} (λ x. (d.0, x)) o ≡ Some (mark, letter) → Accented mark letter c
-    go d t None f g = absurd (no_none g)
+    go d t None f g = cc
     go d t (Some x) f g =
         let k = found_passes (letter_test d.0) (by_character c) d.1 x t.letters f in
         let p = k.0 in
         let at_character = when_some p.1 c p.0 x k.2 in
-        let pairs : ◌≡◌ {A = ℕ × ℕ} (d.0, x) (mark, letter) = some_same g in
+        let pairs : ◌≡◌ {A = ℕ × ℕ} (d.0, x) (mark, letter) = same_Some _ _ g in
         let at_mark : d.0 ≡ mark = ap (λ (q : ℕ × ℕ). q.0) pairs in
         let at_letter : p.0 ≡ letter = at_character.1 ∙ ap (λ (q : ℕ × ℕ). q.1) pairs in
-        accented_same at_mark at_letter at_character.0 (accented_entry d p t k.1)
+        subst₃ Accented at_mark at_letter at_character.0 (accented_entry d p t k.1)

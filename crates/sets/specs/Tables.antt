@@ -1,25 +1,14 @@
 -- A rule that a computed test shows of every entry of a table. Assumes nothing.
-use Rattle.std.specs.Prelude.{◌≡◌, ℕ, zero, suc, ◌+◌, ◌<◌, ◌≤◌, Bool, true, false, ◌&&◌, List, [], ◌∷◌, Some, None, Option, ◌==◌, ◌≢◌, refl}
+use Rattle.std.specs.Prelude.{◌≡◌, ℕ, zero, suc, ◌+◌, ◌<◌, ◌≤◌, Bool, true, false, ◌&&◌, List, [], ◌∷◌, Some, None, Option, ◌==◌, bytes_eq, refl}
 use Rattle.std.proofs.Common.{ap, ◌∙◌, inl, inr, arith}
 use Rattle.std.proofs.lemmas.Bool.{and_parts, cases_eq, eqb-true}
+use Rattle.std.proofs.lemmas.Option.{cond_some}
+use Rattle.std.proofs.lemmas.Slice.Eq.{bytes_eq-Decides}
 use Rattle.sets.specs.Search.{when, or_else, first_in, every_from}
 
-pub no_none : {A : Type 0} {x : A} → None ≢ Some x
-no_none e = let z : ◌≡◌ {A = ℕ} 0 1 = cc in omega arith
-
-pub no_true : false ≡ true → ⊥
-no_true e = let z : ◌≡◌ {A = ℕ} 0 1 = cc in omega arith
-
-pub some_same : {A : Type 0} {x y : A} → Some x ≡ Some y → x ≡ y
-some_same e = cc
-
--- what a test tells, and one on a number
-pub when_true : {A : Type 0} (t : Bool) (x y : A) → when t x ≡ Some y → (t ≡ true) × (x ≡ y)
-when_true true x y e = (refl, some_same e)
-when_true false x y e = absurd (no_none e)
-
+-- what a test on a number tells
 pub when_some : {A : Type 0} (a b : ℕ) (x y : A) → when (a == b) x ≡ Some y → (a ≡ b) × (x ≡ y)
-when_some a b x y e = let h = when_true (a == b) x y e in (eqb-true a b h.0, h.1)
+when_some a b x y e = let h = cond_some (a == b) x y e in (eqb-true a b h.0, h.1)
 
 -- every element passes
 abbrev pub every : {A : Type 0} → (A → Bool) → List A → Bool
@@ -28,7 +17,7 @@ every p (x ∷ xs) = p x && every p xs
 
 -- what a search finds comes from an element that passes
 pub found_passes : {A B : Type 0} (p : A → Bool) (f : A → Option B) (xs : List A) (y : B) → every p xs ≡ true → first_in f xs ≡ Some y → (x : A) × (p x ≡ true) × (f x ≡ Some y)
-found_passes p f [] y all e = absurd (no_none e)
+found_passes p f [] y all e = cc
 found_passes {A} {B} p f (x ∷ xs) y all e =
     let both = and_parts (p x) (every p xs) all in
     go (f x) refl e both.0 (found_passes p f xs y both.1)
@@ -46,27 +35,10 @@ every_at p b (suc n) k all h g =
       | inr d ↦ every_at p (suc b) n k both.1 (omega arith) (omega arith)
     ]
 
--- whether two strings are the same
-abbrev pub same : List ℕ → List ℕ → Bool
-same [] [] = true
-same [] (y ∷ ys) = false
-same (x ∷ xs) [] = false
-same (x ∷ xs) (y ∷ ys) = x == y && same xs ys
-
-pub same_true : (xs ys : List ℕ) → same xs ys ≡ true → xs ≡ ys
-same_true [] [] e = refl
-same_true [] (y ∷ ys) e = absurd (no_true e)
-same_true (x ∷ xs) [] e = absurd (no_true e)
-same_true (x ∷ xs) (y ∷ ys) e =
-    let both = and_parts (x == y) (same xs ys) e in
-    let a = eqb-true x y both.0 in
-    let b = same_true xs ys both.1 in
-    cc
-
 abbrev pub is_string : List ℕ → Option (List ℕ) → Bool
 is_string s None = false
-is_string s (Some t) = same t s
+is_string s (Some t) = bytes_eq t s
 
 pub is_string_true : (s : List ℕ) (o : Option (List ℕ)) → is_string s o ≡ true → o ≡ Some s
-is_string_true s None e = absurd (no_true e)
-is_string_true s (Some t) e = ap Some (same_true t s e)
+is_string_true s None e = cc
+is_string_true s (Some t) e = ap Some ((bytes_eq-Decides t s).0 e)

@@ -1,14 +1,13 @@
 -- UTF-8 keeps the laws of a character set. Assumes nothing.
-use Rattle.std.specs.Prelude.{◌≡◌, ℕ, zero, suc, ◌+◌, ◌-◌, ◌*◌, ◌/◌, ◌<◌, ◌≤◌, Bool, true, false, List, [], ◌∷◌, length, take, Some, None, ◌≢◌, nat_lt, refl}
+use Rattle.std.specs.Prelude.{◌≡◌, ℕ, zero, suc, ◌+◌, ◌-◌, ◌*◌, ◌/◌, ◌<◌, ◌≤◌, true, false, List, [], ◌∷◌, length, take, Some, None, ◌≢◌, nat_lt, refl}
 use Rattle.std.proofs.Common.{sym, ◌∙◌, inl, inr, arith}
 use Rattle.std.specs.List.{AllByRecursion}
-use Rattle.std.proofs.lemmas.Bool.{lt-ltb, le-ltb, cases_lt, cases_Bool}
+use Rattle.std.proofs.lemmas.Bool.{cond-true, lt-ltb, le-ltb, cases_lt, cases_Bool}
 use Rattle.std.proofs.lemmas.Bool.Decides.{nat_tests}
-use Rattle.charset.specs.Meaning.{NoFront, Laws}
-use Rattle.charset.proofs.FrontLemmas.{alone}
-use Rattle.sets.specs.Search.{when}
+use Rattle.std.proofs.lemmas.Option.{none-some, same_Some, cond_some}
+use Rattle.charset.specs.Meaning.{Laws}
+use Rattle.charset.proofs.FrontLemmas.{alone, no_front_by}
 use Rattle.sets.specs.Utf8.{least_second, two_octets, three_octets, four_octets, surrogate, low_bits, utf8_character, utf8_string, utf8_openings, utf8, OpeningsBeginCodings}
-use Rattle.sets.specs.Tables.{no_none, no_true, some_same, when_true}
 
 -- each row of the table of section 3, from the number to the octets and back
 written_two : (c : ℕ) → 0x80 ≤ c → c < 0x800 → utf8_character ((0xc0 + c / 64) ∷ low_bits c ∷ []) ≡ Some c
@@ -70,12 +69,12 @@ written c s e = elim (cases_lt c 0x80) [
   | inr h ↦ elim (cases_lt c 0x800) [
     | inl k ↦ by (string_two c h k) (written_two c h k)
     | inr k ↦ elim (cases_Bool (surrogate c)) [
-      | inl t ↦ absurd (no_none (sym (string_surrogate c t) ∙ e))
+      | inl t ↦ absurd (none-some _ (sym (string_surrogate c t) ∙ e))
       | inr f ↦ elim (cases_lt c 0x10000) [
         | inl l ↦ by (string_three c k f l) (written_three c k l f)
         | inr l ↦ elim (cases_lt c 0x110000) [
           | inl n ↦ by (string_four c l n) (written_four c l n)
-          | inr n ↦ absurd (no_none (sym (string_past c n) ∙ e))
+          | inr n ↦ absurd (none-some _ (sym (string_past c n) ∙ e))
         ]
       ]
     ]
@@ -83,7 +82,7 @@ written c s e = elim (cases_lt c 0x80) [
 ]
   where
     by : {t : List ℕ} → utf8_string c ≡ Some t → utf8_character t ≡ Some c → utf8_character s ≡ Some c
-    by f g = rw (← some_same (sym f ∙ e)) g
+    by f g = rw (← same_Some _ _ (sym f ∙ e)) g
 
 read_one : (a : ℕ) → nat_lt a 0x80 ≡ true → utf8_string a ≡ Some (a ∷ [])
 read_one a t = rw t refl
@@ -98,33 +97,33 @@ read_four : (a b c d : ℕ) → four_octets a b c d ≡ true → utf8_string ((a
 read_four a b c d t = grind (arith, nat_tests)
 
 read : (s : List ℕ) (c : ℕ) → utf8_character s ≡ Some c → utf8_string c ≡ Some s
-read [] n e = absurd (no_none e)
-read (a ∷ []) n e = let h = when_true _ _ n e in rw (← h.1) (read_one a h.0)
-read (a ∷ b ∷ []) n e = let h = when_true _ _ n e in rw (← h.1) (read_two a b h.0)
-read (a ∷ b ∷ c ∷ []) n e = let h = when_true _ _ n e in rw (← h.1) (read_three a b c h.0)
-read (a ∷ b ∷ c ∷ d ∷ []) n e = let h = when_true _ _ n e in rw (← h.1) (read_four a b c d h.0)
-read (a ∷ b ∷ c ∷ d ∷ x ∷ s) n e = absurd (no_none e)
+read [] n e = cc
+read (a ∷ []) n e = let h = cond_some _ _ n e in rw (← h.1) (read_one a h.0)
+read (a ∷ b ∷ []) n e = let h = cond_some _ _ n e in rw (← h.1) (read_two a b h.0)
+read (a ∷ b ∷ c ∷ []) n e = let h = cond_some _ _ n e in rw (← h.1) (read_three a b c h.0)
+read (a ∷ b ∷ c ∷ d ∷ []) n e = let h = cond_some _ _ n e in rw (← h.1) (read_four a b c d h.0)
+read (a ∷ b ∷ c ∷ d ∷ x ∷ s) n e = cc
 
 sized : (s : List ℕ) (c : ℕ) → utf8_character s ≡ Some c → (0 < length s) × (length s ≤ 4)
-sized [] n e = absurd (no_none e)
+sized [] n e = cc
 sized (a ∷ []) n e = (omega arith, omega arith)
 sized (a ∷ b ∷ []) n e = (omega arith, omega arith)
 sized (a ∷ b ∷ c ∷ []) n e = (omega arith, omega arith)
 sized (a ∷ b ∷ c ∷ d ∷ []) n e = (omega arith, omega arith)
-sized (a ∷ b ∷ c ∷ d ∷ x ∷ s) n e = absurd (no_none e)
+sized (a ∷ b ∷ c ∷ d ∷ x ∷ s) n e = cc
 
 bytes : (s : List ℕ) (c : ℕ) → utf8_character s ≡ Some c → AllByRecursion (λ b. b < 256) s
-bytes [] n e = absurd (no_none e)
-bytes (a ∷ []) n e = let h = (when_true _ _ n e).0 in (grind (arith, nat_tests), tt)
-bytes (a ∷ b ∷ []) n e = let h = (when_true _ _ n e).0 in (grind (arith, nat_tests), (grind (arith, nat_tests), tt))
-bytes (a ∷ b ∷ c ∷ []) n e = let h = (when_true _ _ n e).0 in (grind (arith, nat_tests), (grind (arith, nat_tests), (grind (arith, nat_tests), tt)))
-bytes (a ∷ b ∷ c ∷ d ∷ []) n e = let h = (when_true _ _ n e).0 in (grind (arith, nat_tests), (grind (arith, nat_tests), (grind (arith, nat_tests), (grind (arith, nat_tests), tt))))
-bytes (a ∷ b ∷ c ∷ d ∷ x ∷ s) n e = absurd (no_none e)
+bytes [] n e = cc
+bytes (a ∷ []) n e = let h = (cond_some _ _ n e).0 in (grind (arith, nat_tests), tt)
+bytes (a ∷ b ∷ []) n e = let h = (cond_some _ _ n e).0 in (grind (arith, nat_tests), (grind (arith, nat_tests), tt))
+bytes (a ∷ b ∷ c ∷ []) n e = let h = (cond_some _ _ n e).0 in (grind (arith, nat_tests), (grind (arith, nat_tests), (grind (arith, nat_tests), tt)))
+bytes (a ∷ b ∷ c ∷ d ∷ []) n e = let h = (cond_some _ _ n e).0 in (grind (arith, nat_tests), (grind (arith, nat_tests), (grind (arith, nat_tests), (grind (arith, nat_tests), tt))))
+bytes (a ∷ b ∷ c ∷ d ∷ x ∷ s) n e = cc
 
 characters : (s : List ℕ) (c : ℕ) → utf8_character s ≡ Some c → c ≤ 0x10ffff
 characters s c e = elim (cases_lt c 0x110000) [
   | inl h ↦ omega arith
-  | inr h ↦ absurd (no_none (sym (string_past c h) ∙ read s c e))
+  | inr h ↦ absurd (none-some _ (sym (string_past c h) ∙ read s c e))
 ]
 
 opening_sized : (s : List ℕ) → utf8_openings s ≡ true → length s ≤ 3
@@ -132,29 +131,29 @@ opening_sized [] o = omega arith
 opening_sized (a ∷ []) o = omega arith
 opening_sized (a ∷ b ∷ []) o = omega arith
 opening_sized (a ∷ b ∷ c ∷ []) o = omega arith
-opening_sized (a ∷ b ∷ c ∷ d ∷ s) o = absurd (no_true o)
+opening_sized (a ∷ b ∷ c ∷ d ∷ s) o = cc
 
 opening_bytes : (s : List ℕ) → utf8_openings s ≡ true → AllByRecursion (λ b. b < 256) s
 opening_bytes [] o = tt
 opening_bytes (a ∷ []) o = (grind (arith, nat_tests), tt)
 opening_bytes (a ∷ b ∷ []) o = (grind (arith, nat_tests), (grind (arith, nat_tests), tt))
 opening_bytes (a ∷ b ∷ c ∷ []) o = (grind (arith, nat_tests), (grind (arith, nat_tests), (grind (arith, nat_tests), tt)))
-opening_bytes (a ∷ b ∷ c ∷ d ∷ s) o = absurd (no_true o)
+opening_bytes (a ∷ b ∷ c ∷ d ∷ s) o = cc
 
 coding_begins : (s : List ℕ) (c n : ℕ) → utf8_character s ≡ Some c → n < length s → utf8_openings (take n s) ≡ true
 coding_begins s v zero e k = refl
-coding_begins [] v (suc n) e k = absurd (no_none e)
+coding_begins [] v (suc n) e k = cc
 coding_begins (a ∷ []) v (suc n) e k = absurd (omega arith)
-coding_begins (a ∷ b ∷ []) v (suc zero) e k = let h = (when_true _ _ v e).0 in grind (arith, nat_tests)
+coding_begins (a ∷ b ∷ []) v (suc zero) e k = let h = (cond_some _ _ v e).0 in grind (arith, nat_tests)
 coding_begins (a ∷ b ∷ []) v (suc (suc n)) e k = absurd (omega arith)
-coding_begins (a ∷ b ∷ c ∷ []) v (suc zero) e k = let h = (when_true _ _ v e).0 in grind (arith, nat_tests)
-coding_begins (a ∷ b ∷ c ∷ []) v (suc (suc zero)) e k = let h = (when_true _ _ v e).0 in grind (arith, nat_tests)
+coding_begins (a ∷ b ∷ c ∷ []) v (suc zero) e k = let h = (cond_some _ _ v e).0 in grind (arith, nat_tests)
+coding_begins (a ∷ b ∷ c ∷ []) v (suc (suc zero)) e k = let h = (cond_some _ _ v e).0 in grind (arith, nat_tests)
 coding_begins (a ∷ b ∷ c ∷ []) v (suc (suc (suc n))) e k = absurd (omega arith)
-coding_begins (a ∷ b ∷ c ∷ d ∷ []) v (suc zero) e k = let h = (when_true _ _ v e).0 in grind (arith, nat_tests)
-coding_begins (a ∷ b ∷ c ∷ d ∷ []) v (suc (suc zero)) e k = let h = (when_true _ _ v e).0 in grind (arith, nat_tests)
-coding_begins (a ∷ b ∷ c ∷ d ∷ []) v (suc (suc (suc zero))) e k = let h = (when_true _ _ v e).0 in grind (arith, nat_tests)
+coding_begins (a ∷ b ∷ c ∷ d ∷ []) v (suc zero) e k = let h = (cond_some _ _ v e).0 in grind (arith, nat_tests)
+coding_begins (a ∷ b ∷ c ∷ d ∷ []) v (suc (suc zero)) e k = let h = (cond_some _ _ v e).0 in grind (arith, nat_tests)
+coding_begins (a ∷ b ∷ c ∷ d ∷ []) v (suc (suc (suc zero))) e k = let h = (cond_some _ _ v e).0 in grind (arith, nat_tests)
 coding_begins (a ∷ b ∷ c ∷ d ∷ []) v (suc (suc (suc (suc n)))) e k = absurd (omega arith)
-coding_begins (a ∷ b ∷ c ∷ d ∷ x ∷ s) v (suc n) e k = absurd (no_none e)
+coding_begins (a ∷ b ∷ c ∷ d ∷ x ∷ s) v (suc n) e k = cc
 
 opening_begins : (s : List ℕ) (n : ℕ) → utf8_openings s ≡ true → utf8_openings (take n s) ≡ true
 opening_begins s zero o = refl
@@ -168,18 +167,15 @@ opening_begins (a ∷ b ∷ c ∷ []) (suc zero) o = grind (arith, nat_tests)
 opening_begins (a ∷ b ∷ c ∷ []) (suc (suc zero)) o = grind (arith, nat_tests)
 opening_begins (a ∷ b ∷ c ∷ []) (suc (suc (suc zero))) o = o
 opening_begins (a ∷ b ∷ c ∷ []) (suc (suc (suc (suc n)))) o = o
-opening_begins (a ∷ b ∷ c ∷ d ∷ s) (suc n) o = absurd (no_true o)
+opening_begins (a ∷ b ∷ c ∷ d ∷ s) (suc n) o = cc
 
 -- an opening is no coding
 no_coding : (s : List ℕ) (v : ℕ) → utf8_openings s ≡ true → utf8_character s ≢ Some v
-no_coding [] v o e = no_none e
-no_coding (a ∷ []) v o e = let h = (when_true _ _ v e).0 in grind (arith, nat_tests)
-no_coding (a ∷ b ∷ []) v o e = let h = (when_true _ _ v e).0 in grind (arith, nat_tests)
-no_coding (a ∷ b ∷ c ∷ []) v o e = let h = (when_true _ _ v e).0 in grind (arith, nat_tests)
-no_coding (a ∷ b ∷ c ∷ d ∷ s) v o e = no_true o
-
-opening_bare : (s : List ℕ) → utf8_openings s ≡ true → NoFront utf8 s
-opening_bare s o n c e = no_coding (take n s) c (opening_begins s n o) e
+no_coding [] v o e = cc
+no_coding (a ∷ []) v o e = let h = (cond_some _ _ v e).0 in grind (arith, nat_tests)
+no_coding (a ∷ b ∷ []) v o e = let h = (cond_some _ _ v e).0 in grind (arith, nat_tests)
+no_coding (a ∷ b ∷ c ∷ []) v o e = let h = (cond_some _ _ v e).0 in grind (arith, nat_tests)
+no_coding (a ∷ b ∷ c ∷ d ∷ s) v o e = cc
 
 pub utf8_laws : Laws utf8
 utf8_laws = record {
@@ -191,30 +187,27 @@ utf8_laws = record {
   empty_opens = refl;
   opening_sized = opening_sized;
   opening_bytes = opening_bytes;
-  coding_alone = alone utf8 coding_begins opening_bare;
+  coding_alone = alone utf8 coding_begins (no_front_by utf8 opening_begins no_coding);
   coding_begins = coding_begins;
   opening_begins = opening_begins;
-  opening_bare = opening_bare;
+  opening_bare = no_front_by utf8 opening_begins no_coding;
   cause_sized = λ s h. (omega arith, omega arith);
   cause_stays = λ s n h. refl;
 }
 
 -- an opening goes on with the least octets that may follow
-coded : (t : Bool) (n : ℕ) → t ≡ true → when t n ≡ Some n
-coded t n e = rw e refl
-
 pub openings_begin_codings : OpeningsBeginCodings
 openings_begin_codings [] o = (0x20 ∷ [], 0x20, omega arith, refl)
 openings_begin_codings (a ∷ []) o = elim (cases_lt a 0xe0) [
-  | inl h ↦ (0x80 ∷ [], _, omega arith, coded _ _ (grind (arith, nat_tests)))
+  | inl h ↦ (0x80 ∷ [], _, omega arith, cond-true _ (Some _) None (grind (arith, nat_tests)))
   | inr h ↦ elim (cases_lt a 0xf0) [
-    | inl k ↦ (least_second a ∷ 0x80 ∷ [], _, omega arith, coded _ _ (grind (arith, nat_tests)))
-    | inr k ↦ (least_second a ∷ 0x80 ∷ 0x80 ∷ [], _, omega arith, coded _ _ (grind (arith, nat_tests)))
+    | inl k ↦ (least_second a ∷ 0x80 ∷ [], _, omega arith, cond-true _ (Some _) None (grind (arith, nat_tests)))
+    | inr k ↦ (least_second a ∷ 0x80 ∷ 0x80 ∷ [], _, omega arith, cond-true _ (Some _) None (grind (arith, nat_tests)))
   ]
 ]
 openings_begin_codings (a ∷ b ∷ []) o = elim (cases_lt a 0xf0) [
-  | inl k ↦ (0x80 ∷ [], _, omega arith, coded _ _ (grind (arith, nat_tests)))
-  | inr k ↦ (0x80 ∷ 0x80 ∷ [], _, omega arith, coded _ _ (grind (arith, nat_tests)))
+  | inl k ↦ (0x80 ∷ [], _, omega arith, cond-true _ (Some _) None (grind (arith, nat_tests)))
+  | inr k ↦ (0x80 ∷ 0x80 ∷ [], _, omega arith, cond-true _ (Some _) None (grind (arith, nat_tests)))
 ]
-openings_begin_codings (a ∷ b ∷ c ∷ []) o = (0x80 ∷ [], _, omega arith, coded _ _ (grind (arith, nat_tests)))
-openings_begin_codings (a ∷ b ∷ c ∷ d ∷ s) o = absurd (no_true o)
+openings_begin_codings (a ∷ b ∷ c ∷ []) o = (0x80 ∷ [], _, omega arith, cond-true _ (Some _) None (grind (arith, nat_tests)))
+openings_begin_codings (a ∷ b ∷ c ∷ d ∷ s) o = cc
