@@ -1,7 +1,7 @@
 -- What the laws give of codings in front, and of reading. Assumes nothing.
 use Rattle.std.proofs.Common.{◌≡◌, ℕ, zero, suc, ◌+◌, ◌<◌, ◌≤◌, min, Bool, true, false, List, [], ◌∷◌, ◌++◌, length, take, Some, None, Ok, Err, Option, sym, refl, ap, ◌∙◌, inl, inr, arith, length-take, length-take-le, take_all, take-take}
 use native.Mathlib.Nat.{zero-min, min-zero, suc-min-suc}
-use lib.Seq.{take-append-le}
+use lib.Seq.{take-append-le, take-append_seam}
 use Rattle.std.specs.Option.{is_none}
 use Rattle.std.proofs.lemmas.Option.{none-some}
 use Rattle.std.proofs.lemmas.List.{take_min as take_least}
@@ -150,6 +150,9 @@ module _ {m : Meaning} (l : Laws m) where
       (omega arith, rw (← take-take k n s (omega arith)) h.1)
   answer_grows s n (Ok Open) d h = absurd (d refl)
   answer_grows s n (Err q) d h = (bad_grows s n h.0, h.1 ∙ sym (l.cause_stays s n h.0))
+
+  pub reads_on : (s more : List ℕ) (r : Answer) → (r ≡ Ok Open → ⊥) → Reads m s r → Reads m (s ++ more) r
+  reads_on s more r d h = answer_grows (s ++ more) (length s) r d (rw (take-append_seam s more) h)
 
   pub reading_bad : (s : List ℕ) → Unreadable m s → reading m s ≡ Err (m.causes s)
   reading_bad s h = reading_is s (Err (m.causes s)) (h, refl)

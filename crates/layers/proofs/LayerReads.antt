@@ -1,17 +1,17 @@
 -- What a layer reads, from what the set below reads. Assumes nothing.
 use Rattle.std.proofs.Common.{◌≡◌, ℕ, zero, suc, ◌≤◌, Bool, true, false, cond, ◌⊎◌, List, [], ◌∷◌, length, take, Ok, Err, refl, ap, inl, inr, arith, length-take, take_all, take-take}
-use Rattle.std.proofs.lemmas.Bool.{cases_lt, both_ways}
+use Rattle.std.proofs.lemmas.Bool.{cases_lt, both_ways, false_from_ne_true}
+use Rattle.std.proofs.lemmas.List.{take_min}
 use Rattle.charset.specs.declared.SetRefusal.{SetRefusal}
 use Rattle.charset.specs.declared.Reading.TheVariants.{Found, Open}
 use Rattle.charset.specs.Meaning.{Meaning, Codes, Opens, Unreadable, Laws}
 use Rattle.charset.specs.Answers.{Answer, Reads, reading}
 use Rattle.layers.specs.Depth.{own, up}
-use Rattle.layers.specs.Recoding.{Recoding, clean, below, ends, is_broken, recoded}
+use Rattle.layers.specs.Recoding.{Recoding, clean, below, ends, is_broken, recoded, Agrees}
 use Rattle.layers.specs.CharacterList.{on_list}
 use Rattle.layers.specs.Layers.{sub, added, controls}
-use Rattle.charset.proofs.FrontLemmas.{take_self, reading_is, open_apart}
-use Rattle.layers.specs.Recoding.{Agrees}
-use Rattle.layers.specs.Recode.{codes_parts, codes_from, opens_parts, opens_from, below_take, recoded_laws}
+use Rattle.charset.proofs.FrontLemmas.{reading_is}
+use Rattle.layers.specs.Recode.{codes_parts, codes_from, opens_parts, opens_from, below_take}
 use Rattle.layers.specs.LayersKeep.{kept_parts, control_parts, from_below, new}
 
 abbrev pub sub_read : List ℕ → Answer → Answer
@@ -21,7 +21,7 @@ sub_read ds (Err q) = Err (up q)
 
 -- a coding in front, at whatever length it is taken
 front_reads : {m : Meaning} → Laws m → (s : List ℕ) (j d : ℕ) → Codes m (take j s) d → reading m s ≡ Ok (Found d (length (take j s)))
-front_reads l s j d p = reading_is l s (Ok (Found d (length (take j s)))) (rw (length-take j s) (omega arith), rw (take_self s j) p)
+front_reads l s j d p = reading_is l s (Ok (Found d (length (take j s)))) (rw (length-take j s) (omega arith), rw (length-take j s, take_min j s) p)
 
 pub reads_sub : (ds : List ℕ) {m : Meaning} (l : Laws m) (s : List ℕ) (r : Answer) → Reads m s r → Reads (sub ds m) s (sub_read ds r)
 reads_sub ds {m} l s r h = go r (reading_is l s r h) h
@@ -35,7 +35,7 @@ reads_sub ds {m} l s r h = go r (reading_is l s r h) h
             let f = front_reads l s j d g.1 in
             let same : c ≡ d = cc in
             both_ways _ (rw same at k) g.0,
-        open_apart l s _ refl (λ o. l.opening_bare s o n c h.1),
+        false_from_ne_true _ (λ o. l.opening_bare s o n c h.1),
       ),
       rw e,
     )
@@ -102,7 +102,7 @@ module _ (r : Recoding) (m : Meaning) (a : Agrees r) (l : Laws m) where
   reads_refused s q b = (
     (
       λ n c p. let g = front_below s n c p in b.0.0 g.0 c g.1,
-      open_apart (recoded_laws r m a l) s _ refl (λ o. let h = opens_parts r m s o in both_ways _ b.0.1 (rw (take_all 4 s (omega arith)) h.2)),
+      false_from_ne_true _ (λ o. let h = opens_parts r m s o in both_ways _ b.0.1 (rw (take_all 4 s (omega arith)) h.2)),
     ),
     rw (reading_is l (below r false (take 4 s)) (Err q) b),
   )
@@ -112,7 +112,7 @@ module _ (r : Recoding) (m : Meaning) (a : Agrees r) (l : Laws m) where
   reads_own s n o d e = (
     (
       λ k c p. let g = front_below s k c p in l.opening_bare (below r false (take 4 s)) o g.0 c g.1,
-      open_apart (recoded_laws r m a l) s _ refl (λ o. let h = opens_parts r m s o in elim d [
+      false_from_ne_true _ (λ o. let h = opens_parts r m s o in elim d [
         | inl e ↦ both_ways _ h.1 (rw (take_all 4 s (omega arith)) at e)
         | inr g ↦ omega arith
       ]),

@@ -1,31 +1,21 @@
 -- A character stands on a list where some place has it. Assumes nothing.
-use Rattle.std.proofs.Common.{◌≡◌, ℕ, zero, suc, ◌<◌, ◌≤◌, Bool, true, false, eqb, List, [], ◌∷◌, length, get_or, is_ok, Ok, Err, Result, MatchResult, sym, refl, ◌∙◌, inl, inr, arith}
+use Rattle.std.proofs.Common.{◌≡◌, ℕ, ◌<◌, ◌≤◌, Bool, true, false, eqb, List, length, get_or, is_ok, Ok, Err, Result, MatchResult, sym, refl, ◌∙◌, inl, inr, arith}
 use Rattle.std.specs.List.Sorted.{IsBinarySearchResult}
 use Rattle.std.specs.Ordering.{nat_cmp}
-use Rattle.std.proofs.lemmas.Bool.{cases_eq, cases_lt, cases_Bool, eq-eqb, ne_eqb}
+use Rattle.std.proofs.lemmas.Bool.{cases_lt, eq-eqb, eqb-true}
 use Rattle.std.proofs.lemmas.List.Sorted.{searched}
+use Rattle.std.proofs.lemmas.List.Folds.{list_any_at, Any-from_list_any}
+use Rattle.std.proofs.lemmas.List.{get_or_default}
 use Rattle.layers.specs.CharacterList.{on_list, Rising}
 use Rattle.layers.proofs.Risen.{never_falls}
 
 -- the place of a listed character
 pub place_of : (xs : List ℕ) (c : ℕ) → on_list xs c ≡ true → (k : ℕ) × (k < length xs) × (get_or xs k 0 ≡ c)
-place_of [] c h = cc
-place_of (x ∷ xs) c h = elim (cases_eq x c) [
-  | inl e ↦ (0, omega arith, e)
-  | inr d ↦
-      let n : eqb x c ≡ false = ne_eqb x c d in
-      let p = place_of xs c (rw n at h) in
-      (suc p.0, omega (arith, p.1), p.2)
-]
+place_of xs c h = let a = Any-from_list_any (λ x. eqb x c) xs h in (a.0, a.2, get_or_default xs a.0 0 a.1 a.2 ∙ a.3 ∙ eqb-true a.1 c a.4)
 
 -- what stands at a place is listed
 pub listed_at : (xs : List ℕ) (k : ℕ) → k < length xs → on_list xs (get_or xs k 0) ≡ true
-listed_at [] k h = absurd (omega arith)
-listed_at (x ∷ xs) zero h = rw (eq-eqb x x refl) refl
-listed_at (x ∷ xs) (suc k) h = elim (cases_Bool (eqb x (get_or xs k 0))) [
-  | inl e ↦ rw e refl
-  | inr e ↦ rw e (listed_at xs k (omega arith))
-]
+listed_at xs k h = list_any_at (λ x. eqb x (get_or xs k 0)) xs k 0 h (eq-eqb _ _ refl)
 
 -- a search of numbers that rise finds what is listed
 pub listed_by_search : (xs : List ℕ) (c : ℕ) → Rising xs → (r : Result ℕ ℕ) → IsBinarySearchResult (λ y. nat_cmp y c) xs r → (b : Bool) → b ≡ is_ok r → b ≡ on_list xs c

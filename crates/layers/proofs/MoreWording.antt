@@ -1,6 +1,6 @@
 -- The subrepertoire and the controls in plain words. Assumes nothing.
 use Rattle.std.proofs.Common.{◌≡◌, ℕ, Bool, true, false, ◌&&◌, ltb, ◌⊎◌, List, [], ◌∷◌, get_or, is_err, is_none, Ok, Err, refl, inl, inr}
-use Rattle.std.proofs.lemmas.Bool.{and_parts, both_ways, lt-ltb}
+use Rattle.std.proofs.lemmas.Bool.{and_parts, both_ways, lt-ltb, false_from_ne_true}
 use Rattle.charset.specs.declared.Reading.TheVariants.{Found, Open}
 use Rattle.charset.specs.Meaning.{Meaning, Unreadable, Laws}
 use Rattle.charset.specs.Answers.{Answer, Reads, reading}
@@ -20,12 +20,8 @@ sub_meaning ds m l = record {
   causes_only = λ s u. go s u (reading m s) (reading_reads l s);
 }
   where
-    off : (c : ℕ) (b : Bool) → on_list ds c ≡ b → (on_list ds c ≡ true → ⊥) → on_list ds c ≡ false
-    off c true e f = absurd (f e)
-    off c false e f = e
-
     go : (s : List ℕ) → Unreadable (sub ds m) s → (r : Answer) → Reads m s r → Unreadable m s ⊎ ((c n : ℕ) × Reads m s (Ok (Found c n)) × (on_list ds c ≡ false))
-    go s u (Ok (Found c n)) h = inr (c, n, h, off c (on_list ds c) refl (λ e. u.0 n c (rw (h.1, e) refl)))
+    go s u (Ok (Found c n)) h = inr (c, n, h, false_from_ne_true _ (λ e. u.0 n c (rw (h.1, e) refl)))
     go s u (Ok Open) h = absurd (both_ways _ u.1 h)
     go s u (Err q) h = inl h.0
 

@@ -1,8 +1,8 @@
 -- Numbers are refused on one ground only. Assumes nothing.
-use Rattle.std.proofs.Common.{◌≡◌, ℕ, ◌<◌, ◌≤◌, false, ◌⊎◌, List, length, sym, ◌∙◌, inl, inr, arith}
+use Rattle.std.proofs.Common.{◌≡◌, ℕ, ◌<◌, ◌≤◌, false, ◌⊎◌, List, length, sym, ◌∙◌, inl, inr, arith, true, None}
 use Rattle.std.proofs.lemmas.Bool.{cases_order, both_ways}
 use Rattle.charset.specs.Meaning.{Codings}
-use Rattle.layers.specs.CharacterList.{rises_at, on_list, Rising, Complete}
+use Rattle.layers.specs.CharacterList.{rises_at, on_list, Rising, Complete, required}
 use Rattle.layers.specs.Refusals.{Told}
 use Rattle.layers.specs.Filled.{FirstNotRising, FirstMissing, FirstUncoded, IsNotIncreasing, Lacking, WithoutCoding, Acceptable, Ground, OneAnswer}
 
@@ -15,22 +15,11 @@ module _ (k : Codings) (xs : List ℕ) where
   falls_once i j p q = smallest (λ n. rises_at xs n ≡ false) i j p.here q.here (λ n h f. both_ways (rises_at xs n) f (p.before n h)) (λ n h f. both_ways (rises_at xs n) f (q.before n h))
 
   missing_once : (c d : ℕ) → FirstMissing xs c → FirstMissing xs d → c ≡ d
-  missing_once c d p q = elim (cases_order c d) [
-    | inl e ↦ e
-    | inr o ↦ elim o [
-      | inl h ↦ absurd (both_ways (on_list xs c) p.absent (q.before c p.needed h))
-      | inr h ↦ absurd (both_ways (on_list xs d) q.absent (p.before d q.needed h))
-    ]
-  ]
+  missing_once c d p q = smallest (λ n. (on_list required n ≡ true) × (on_list xs n ≡ false)) c d (p.needed, p.absent) (q.needed, q.absent)
+      (λ n h f. both_ways (on_list xs n) f.1 (p.before n f.0 h)) (λ n h f. both_ways (on_list xs n) f.1 (q.before n f.0 h))
 
   uncoded_once : (c d : ℕ) → FirstUncoded k xs c → FirstUncoded k xs d → c ≡ d
-  uncoded_once c d p q = elim (cases_order c d) [
-    | inl e ↦ e
-    | inr o ↦ elim o [
-      | inl h ↦ absurd (q.before c p.listed h p.uncoded)
-      | inr h ↦ absurd (p.before d q.listed h q.uncoded)
-    ]
-  ]
+  uncoded_once c d p q = smallest (λ n. (on_list xs n ≡ true) × (k.string n ≡ None)) c d (p.listed, p.uncoded) (q.listed, q.uncoded) (λ n h f. p.before n f.0 h f.1) (λ n h f. q.before n f.0 h f.1)
 
   -- what the grounds that come later have in common
   short : (t : Told) → IsNotIncreasing xs t ⊎ (Lacking xs t ⊎ WithoutCoding k xs t) → length xs ≤ 512

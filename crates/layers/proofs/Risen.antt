@@ -1,26 +1,21 @@
 -- Numbers that rise. Assumes nothing.
-use Rattle.std.proofs.Common.{◌≡◌, ℕ, zero, suc, ◌-◌, ◌<◌, ◌≤◌, true, ◌&&◌, ◌||◌, eqb, ltb, leb, List, length, get_or, inl, inr, arith}
+use Rattle.std.proofs.Common.{◌≡◌, ℕ, ◌-◌, ◌<◌, ◌≤◌, true, ◌&&◌, ◌||◌, eqb, ltb, leb, List, length, get_or, inl, inr, arith, ◌+◌}
 use Rattle.std.proofs.lemmas.Bool.{cases_eq, cases_lt}
 use Rattle.std.proofs.lemmas.Bool.Decides.{nat_tests}
-use Rattle.layers.specs.CharacterList.{rises_at, Rising}
+use Rattle.std.specs.List.Sorted.{IsStrictlyIncreasing}
+use Rattle.std.proofs.lemmas.List.Kept.{AllPairs-from_increasing}
+use Rattle.layers.specs.CharacterList.{Rising}
 
 -- each number is above the one before it
-next : (xs : List ℕ) → Rising xs → (i : ℕ) → suc i < length xs → get_or xs i 0 < get_or xs (suc i) 0
+next : (xs : List ℕ) → Rising xs → IsStrictlyIncreasing xs
 next xs up i h =
-    let back : suc i - 1 ≡ i = omega arith in
-    let t : rises_at xs (suc i) ≡ true = up (suc i) h in
-    let u : leb (get_or xs (suc i) 0) 0x10ffff && (eqb (suc i) 0 || ltb (get_or xs i 0) (get_or xs (suc i) 0)) ≡ true = rw back at t in
+    let back : i + 1 - 1 ≡ i = omega arith in
+    let u : leb (get_or xs (i + 1) 0) 0x10ffff && (eqb (i + 1) 0 || ltb (get_or xs i 0) (get_or xs (i + 1) 0)) ≡ true = rw back at (up (i + 1) h) in
     grind (arith, nat_tests)
 
 -- the number at a later place is the larger one
 pub farther : (xs : List ℕ) → Rising xs → (j k : ℕ) → j < k → k < length xs → get_or xs j 0 < get_or xs k 0
-farther xs up j zero h g = absurd (omega arith)
-farther xs up j (suc k) h g =
-    let step = next xs up k g in
-    elim (cases_eq j k) [
-      | inl e ↦ rw e step
-      | inr d ↦ omega (arith, step, farther xs up j k (omega arith) (omega arith))
-    ]
+farther xs up j k h g = AllPairs-from_increasing xs (next xs up) j k 0 h g
 
 -- a smaller number stands at an earlier place
 pub earlier : (xs : List ℕ) → Rising xs → (j k : ℕ) → j < length xs → k < length xs → get_or xs j 0 < get_or xs k 0 → j < k

@@ -1,7 +1,7 @@
 -- The layers' meanings in plain words. Assumes nothing.
-use Rattle.std.proofs.Common.{◌≡◌, ℕ, suc, ◌+◌, ◌-◌, ◌%◌, ◌<◌, ◌≤◌, Bool, true, false, cond, ◌⊎◌, List, [], ◌∷◌, ◌++◌, map, length, take, Some, None, Ok, Option, sym, refl, ap, ◌∙◌, subst, inl, inr, append-nil, arith, length-append, take_all}
+use Rattle.std.proofs.Common.{◌≡◌, ℕ, suc, ◌+◌, ◌-◌, ◌%◌, ◌<◌, ◌≤◌, Bool, true, false, cond, ◌⊎◌, List, [], ◌∷◌, ◌++◌, map, length, take, Some, None, Ok, Option, sym, refl, ap, ◌∙◌, subst, inl, inr, append-nil, arith, length-append, take_all, Err}
 use lib.ListN.{length-map}
-use lib.Seq.{take-append-add, take-append_seam}
+use lib.Seq.{take-append_seam}
 use lib.Count.{ones}
 use Rattle.std.proofs.lemmas.Bool.{cases_lt, both_ways}
 use Rattle.std.proofs.lemmas.Bool.Decides.{nat_tests}
@@ -13,11 +13,11 @@ use Rattle.layers.specs.declared.recoding.moves.Move.TheVariants.{Emit, Hold}
 use Rattle.layers.specs.declared.recoding.moves.Form.{Form}
 use Rattle.layers.specs.declared.recoding.moves.Form.TheVariants.{One, Two}
 use Rattle.layers.specs.Depth.{own, up}
-use Rattle.layers.specs.Recoding.{End, clean, pending, broken, Recoding, put, stop, below, ends, before, shifted, is_broken, recoded}
+use Rattle.layers.specs.Recoding.{End, clean, pending, broken, Recoding, put, stop, below, ends, before, shifted, is_broken, recoded, Agrees}
 use Rattle.layers.specs.Layers.{parity_form, parity_bytes, parity, shift_form, shift_step, shift_bytes, shift}
 use Rattle.layers.specs.Words.{in_parity, InParity, Shifts, BeginsShifted, CannotFollow, ParityMeaning, ShiftMeaning}
-use Rattle.charset.proofs.FrontLemmas.{reading_is, reading_bad, bad_grows, opening_passed}
-use Rattle.layers.specs.Recoding.{Agrees}
+use Rattle.charset.proofs.FrontLemmas.{reading_is, opening_passed, reads_on}
+use Rattle.charset.proofs.Places.{four}
 use Rattle.layers.specs.Recode.{codes_parts, codes_from, opens_parts, opens_from, shifted_reads, reads_shifted}
 use Rattle.layers.specs.LayersKeep.{parity_agrees, shift_agrees, parity_laws, shift_laws}
 use Rattle.layers.proofs.Faults.{first_fault}
@@ -129,9 +129,6 @@ module _ {r : Recoding} (a : Agrees r) (m : Meaning) where
       go (Some Hold) f e = f true e
       go None f e = absurd (unbroken h (sym e))
 
-  clean_join : (p : List ℕ) (q : Bool) (s : List ℕ) → ends r q p ≡ clean → (ends r q (p ++ s) ≡ ends r false s) × (below r q (p ++ s) ≡ below r q p ++ below r false s)
-  clean_join = join false
-
   -- an opening is a string that shifts an opening below, with or without one more held byte
   form_opens : (s : List ℕ) → Opens (recoded r m) s → (length s ≤ 3) × ((t : List ℕ) × Opens m t × ((shifted r t ≡ Some s) ⊎ Split s t))
   form_opens s o = let h = opens_parts r m s o in (h.0, (below r false s, h.2, go (ends r false s) refl h.1))
@@ -146,7 +143,7 @@ module _ {r : Recoding} (a : Agrees r) (m : Meaning) where
   form_ends s t (inl e) = let g = shifted_reads a t s e in (rw g.0, g.1)
   form_ends s t (inr i) =
       let g = shifted_reads a t i.0 i.4 in
-      let j = clean_join i.0 false (i.1 ∷ []) g.0 in
+      let j = join false i.0 false (i.1 ∷ []) g.0 in
       rw (i.2, j.0, j.1, i.3, append-nil) (refl, g.1)
 
   form_opened : (s t : List ℕ) → length s ≤ 3 → Opens m t → (shifted r t ≡ Some s) ⊎ Split s t → Opens (recoded r m) s
@@ -165,10 +162,6 @@ module _ {r : Recoding} (a : Agrees r) (m : Meaning) where
       go (Some (Emit b)) i f g = ((i false f g).0, ap {B = List ℕ} (λ z. b ∷ z) (i false f g).1)
       go (Some Hold) i f g = i true f g
       go None i f g = (refl, refl)
-
-  -- four bytes of a string and more
-  four : (s rest : List ℕ) → length s ≤ 4 → take 4 (s ++ rest) ≡ s ++ take (4 - length s) rest
-  four s rest h = let e : length s + (4 - length s) ≡ 4 = omega arith in ap (λ n. take n (s ++ rest)) (sym e) ∙ take-append-add s rest (4 - length s)
 
   module _ (l : Laws m) where
     own_cause : (p rest : List ℕ) (x : ℕ) → Opens (recoded r m) p → (ends r false p ≡ clean → r.step false x ≡ None) → (ends r false p ≡ pending → r.step true x ≡ None)
@@ -189,10 +182,8 @@ module _ {r : Recoding} (a : Agrees r) (m : Meaning) where
     below_cause s t rest h b e =
         let g = shifted_reads a t s e in
         let more = below r false (take (4 - length s) rest) in
-        let j : below r false (s ++ take (4 - length s) rest) ≡ t ++ more = (clean_join s false (take (4 - length s) rest) g.0).1 ∙ ap (λ z. z ++ more) g.1 in
-        let b' : Unreadable m (take (length t) (t ++ more)) = rw (take-append_seam t more) b in
-        let q : m.causes (t ++ more) ≡ m.causes t = l.cause_stays (t ++ more) (length t) b' ∙ ap m.causes (take-append_seam t more) in
-        rw (four s rest h, j, reading_bad l (t ++ more) (bad_grows l (t ++ more) (length t) b'), q)
+        let j : below r false (s ++ take (4 - length s) rest) ≡ t ++ more = (join false s false (take (4 - length s) rest) g.0).1 ∙ ap (λ z. z ++ more) g.1 in
+        rw (four s rest h, j, reading_is l (t ++ more) (Err (m.causes t)) (reads_on l t more (Err (m.causes t)) (λ z. cc) (b, refl)))
 
     -- what is wrong with a byte after an opening
     abbrev Fault : List ℕ → ℕ → Type 0
@@ -346,7 +337,7 @@ shift_meaning m l = record {
     cannot b p x (inl h) e = no_high false x h
     cannot b p x (inr h) e =
         let g = shifted_reads shift_agrees h.1 h.0 (shifts_shifted h.1 h.0 h.3) in
-        let k : pending ≡ clean = sym (clean_join shift_agrees m h.0 false (0x19 ∷ []) g.0).0 ∙ ap (ends shift_bytes false) (sym h.2) ∙ e in
+        let k : pending ≡ clean = sym (join shift_agrees m false h.0 false (0x19 ∷ []) g.0).0 ∙ ap (ends shift_bytes false) (sym h.2) ∙ e in
         cc
 
     cannot' : (p : List ℕ) (x : ℕ) → CannotFollow p x → ends shift_bytes false p ≡ pending → shift_step true x ≡ None

@@ -1,19 +1,14 @@
 -- A subrepertoire's list of characters. Assumes nothing.
-use Rattle.std.specs.Prelude.{◌≡◌, ℕ, zero, suc, ◌-◌, ◌<◌, ◌≤◌, Bool, true, false, ◌&&◌, ◌||◌, List, [], ◌∷◌, ◌++◌, length, ◌==◌, nat_le, nat_lt, slice_index}
-
--- n numbers, one after the other, from b on
-abbrev pub run : ℕ → ℕ → List ℕ
-run zero b = []
-run (suc n) b = b ∷ run n (suc b)
+use Rattle.std.specs.Prelude.{◌≡◌, ℕ, ◌-◌, ◌<◌, ◌≤◌, Bool, true, ◌&&◌, ◌||◌, List, ◌∷◌, ◌++◌, length, ◌==◌, nat_le, nat_lt, slice_index}
+use Rattle.std.specs.List.{list_any, range_with_len}
 
 -- the characters that every list holds: SPACE ' ( ) + , - . / then 0 to 9, : = ? and A to Z, a to z
 unfoldable pub required : List ℕ
-required = 0x20 ∷ 0x27 ∷ 0x28 ∷ 0x29 ∷ 0x2b ∷ 0x2c ∷ 0x2d ∷ 0x2e ∷ 0x2f ∷ (run 10 0x30 ++ (0x3a ∷ 0x3d ∷ 0x3f ∷ (run 26 0x41 ++ run 26 0x61)))
+required = 0x20 ∷ 0x27 ∷ 0x28 ∷ 0x29 ∷ 0x2b ∷ 0x2c ∷ 0x2d ∷ 0x2e ∷ 0x2f ∷ (range_with_len 0x30 10 ++ (0x3a ∷ 0x3d ∷ 0x3f ∷ (range_with_len 0x41 26 ++ range_with_len 0x61 26)))
 
 -- whether a character stands on a list
 abbrev pub on_list : List ℕ → ℕ → Bool
-on_list [] c = false
-on_list (x ∷ xs) c = x == c || on_list xs c
+on_list xs c = list_any (λ x. x == c) xs
 
 -- whether the number at i is at most U+10FFFF and above the one before it
 abbrev pub rises_at : List ℕ → ℕ → Bool

@@ -1,6 +1,6 @@
 -- Each layer over a lawful set is a lawful set. Assumes nothing.
-use Rattle.std.specs.Prelude.{◌≡◌, ℕ, ◌+◌, ◌*◌, ◌%◌, ◌^◌, ◌<◌, ◌≤◌, min, Bool, true, false, cond, ◌⊎◌, List, [], ◌∷◌, length, take, Some, None, Ok, Err, Option, is_none, is_err, refl}
-use Rattle.std.proofs.Common.{ap, ◌∙◌, inl, inr, arith, length-take, take-take, lit<, lit≤}
+use Rattle.std.specs.Prelude.{◌≡◌, ℕ, ◌+◌, ◌*◌, ◌%◌, ◌^◌, ◌<◌, Bool, true, false, cond, ◌⊎◌, List, [], ◌∷◌, length, take, Some, None, Ok, Err, Option, is_err, refl}
+use Rattle.std.proofs.Common.{ap, ◌∙◌, inl, inr, arith, lit<, lit≤}
 use Rattle.std.specs.Int.Count.{ones}
 use Rattle.std.specs.Option.{option_or}
 use Rattle.std.proofs.lemmas.Nat.{ones_cat}
@@ -14,7 +14,7 @@ use Rattle.layers.specs.declared.recoding.moves.Form.TheVariants.{One}
 use Rattle.layers.specs.Depth.{own, up, over}
 use Rattle.layers.specs.CharacterList.{on_list}
 use Rattle.layers.specs.Layers.{parity_step, parity_form, parity_bytes, parity, shift_bytes, shift, kept, sub, added, control, controls}
-use Rattle.charset.proofs.FrontLemmas.{reading_reads, reading_is, reading_bad, bad_grows, alone}
+use Rattle.charset.proofs.FrontLemmas.{reading_reads, reading_is, alone, no_value, answer_grows}
 use Rattle.layers.specs.Recoding.{Agrees}
 use Rattle.layers.specs.Recode.{recoded_laws, over_small}
 
@@ -77,11 +77,6 @@ pub parity_laws : {m : Meaning} → Laws m → Laws (parity m)
 parity_laws {m} l = recoded_laws parity_bytes m parity_agrees l
 
 -- Subrepertoire
-coded_grows : (m : Meaning) (s : List ℕ) (n c k : ℕ) → Reads m (take n s) (Ok (Found c k)) → Reads m s (Ok (Found c k))
-coded_grows m s n c k h =
-    let k_fits : k ≤ min n (length s) = rw (← length-take n s) h.0 in
-    (omega arith, rw (← take-take k n s (omega arith)) h.1)
-
 module _ (ds : List ℕ) {m : Meaning} (l : Laws m) where
   pub kept_parts : (s : List ℕ) (c : ℕ) → Codes (sub ds m) s c → (on_list ds c ≡ true) × Codes m s c
   kept_parts s c p = go (m.codings.character s) refl p
@@ -109,18 +104,15 @@ module _ (ds : List ℕ) {m : Meaning} (l : Laws m) where
     opening_begins = l.opening_begins;
     opening_bare = λ s o n c p. l.opening_bare s o n c (kept_parts (take n s) c p).1;
     cause_sized = λ s h. over_small l s (own 37) (lit< tt) (lit< tt);
-    cause_stays = λ s n h. stays s n (reading m (take n s)) (reading_reads l (take n s)) refl h.1;
+    cause_stays = λ s n h.
+        let r = reading m (take n s) in
+        let f = reading_reads l (take n s) in
+        ap (λ z. over z (own 37)) (reading_is l s r (answer_grows l s n r (λ e. both_ways _ h.1 (rw e at f)) f));
   }
     where
       go : (c : ℕ) (s : List ℕ) (b : Bool) → on_list ds c ≡ b → cond b (m.codings.string c) None ≡ Some s → kept ds (m.codings.character s) ≡ Some c
       go c s true e p = rw (l.written c s p, e)
       go c s false e p = cc
-
-      stays : (s : List ℕ) (n : ℕ) (r : Answer) → Reads m (take n s) r → reading m (take n s) ≡ r → m.openings (take n s) ≡ false
-          → over (reading m s) (own 37) ≡ over (reading m (take n s)) (own 37)
-      stays s n (Ok (Found c k)) h e o = rw (e, reading_is l s (Ok (Found c k)) (coded_grows m s n c k h))
-      stays s n (Ok Open) h e o = absurd (both_ways _ o h)
-      stays s n (Err q) h e o = rw (e, reading_bad l s (bad_grows l s n h.0), l.cause_stays s n h.0, h.1)
 
 -- Controls
 module _ (cs : List Bool) {m : Meaning} (l : Laws m) where
@@ -142,16 +134,12 @@ module _ (cs : List Bool) {m : Meaning} (l : Laws m) where
   added_parts c p =
       let h = and_parts _ _ p in
       let g = and_parts _ _ h.1 in
-      (ltb-true _ _ (and_parts _ _ h.0).0, refusing (reading m (c ∷ [])) (reading_reads l (c ∷ [])) g.0, nothing (m.codings.string c) refl g.1)
+      (ltb-true _ _ (and_parts _ _ h.0).0, refusing (reading m (c ∷ [])) (reading_reads l (c ∷ [])) g.0, no_value (m.codings.string c) g.1)
     where
       refusing : (r : Answer) → Reads m (c ∷ []) r → is_err r ≡ true → Unreadable m (c ∷ [])
       refusing (Ok (Found d n)) h e = absurd (both_ways false refl e)
       refusing (Ok Open) h e = absurd (both_ways false refl e)
       refusing (Err q) h e = h.0
-
-      nothing : (o : Option (List ℕ)) → m.codings.string c ≡ o → is_none o ≡ true → m.codings.string c ≡ None
-      nothing None e f = e
-      nothing (Some x) e f = absurd (both_ways false refl f)
 
   pub from_below : (s : List ℕ) (c : ℕ) → Codes m s c → Codes (controls cs m) s c
   from_below s c p = rw p

@@ -1,7 +1,7 @@
 -- A set under another form of bytes keeps the laws. Assumes nothing.
 use Rattle.std.specs.Prelude.{◌≡◌, ℕ, zero, suc, ◌<◌, ◌≤◌, Bool, true, false, cond, ◌&&◌, ◌⊎◌, List, [], ◌∷◌, length, take, Some, None, Ok, Err, Option, nat_le, refl}
 use Rattle.std.proofs.Common.{sym, ap, ◌∙◌, inl, inr, arith, length-take, take_all, take-take, lit<}
-use Rattle.std.proofs.lemmas.Bool.{cases_lt, both_ways, leb-true, le-leb, and_parts, not-true}
+use Rattle.std.proofs.lemmas.Bool.{cases_lt, both_ways, leb-true, le-leb, and_parts, not-true, cond_both}
 use Rattle.std.specs.List.{AllByRecursion}
 use Rattle.charset.specs.declared.SetRefusal.{SetRefusal}
 use Rattle.charset.specs.declared.Reading.TheVariants.{Found, Open}
@@ -218,10 +218,6 @@ module _ (r : Recoding) (m : Meaning) where
     some_size [] c p = absurd (omega (arith, l.sized [] c p))
     some_size (x ∷ s) c p = omega arith
 
-    fault_small : (b : Bool) → cond b r.fault 36 < 256
-    fault_small true = a.small_fault
-    fault_small false = lit< tt
-
     -- the front of at most four bytes decides
     stays : (s : List ℕ) (n : ℕ) → n < 4 → Unreadable (recoded r m) (take n s) → scan_cause r m s ≡ scan_cause r m (take n s)
     stays s n small bad = go (ends r false (take n s)) refl
@@ -263,7 +259,7 @@ module _ (r : Recoding) (m : Meaning) where
       opening_begins = λ s n o. let h = opens_parts s o in
           opens_from (take n s) (rw (length-take n s) (omega arith)) (unbroken_take s n h.1) (begins s n (l.opening_begins _ _ h.2));
       opening_bare = open_bare;
-      cause_sized = λ s h. over_small l _ _ (fault_small _) (lit< tt);
+      cause_sized = λ s h. over_small l _ _ (cond_both _ r.fault 36 (λ n. n < 256) (λ _. a.small_fault) (λ _. lit< tt)) (lit< tt);
       cause_stays = λ s n h. elim (cases_lt n 4) [
         | inl g ↦ let e : take n (take 4 s) ≡ take n s = take-take n 4 s (omega arith) in
             stays (take 4 s) n g (rw e h) ∙ ap (scan_cause r m) (e ∙ sym (take_all 4 (take n s) (rw (length-take n s) (omega arith))))
