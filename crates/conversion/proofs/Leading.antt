@@ -17,12 +17,6 @@ data Next : Type 0 where
   writes : List ℕ → Next
   halts : End → Next
 
-halts_once : {a b : End} → halts a ≡ halts b → a ≡ b
-halts_once e = cc
-
-no_halt : {a : End} {v : List ℕ} → writes v ≡ halts a → ⊥
-no_halt e = let z : ◌≡◌ {A = ℕ} 0 1 = cc in omega arith
-
 abbrev coded_next : ℕ → Option (List ℕ) → ℕ → ℕ → Next
 coded_next c None used room = halts (Err (Unwritten c))
 coded_next c (Some v) used room = cond (ltb room (used + length v)) (halts (Ok Full)) (writes v)
@@ -66,9 +60,10 @@ module _ (S T : Meaning) (l : Laws S) where
       let same : target ≡ parts.0 = spells_one T cs target parts.0 h.into parts.2 in
       let v = parts.3 in
       let size : length target + length v.0 ≤ room = omega (arith, h'.fits, rw (parts.4, v.3, length-append, length-append, ← same) at h'.fits) in
-      absurd (no_halt (sym (goes_next p.0 (p.1 ++ rest') c v.0 (length target) room (l.written c _ p.2) v.2 size)
+      let e : writes v.0 ≡ halts k = sym (goes_next p.0 (p.1 ++ rest') c v.0 (length target) room (l.written c _ p.2) v.2 size)
       ∙ ap (λ t. next T (reading S t) (length target) room) (sym (f ∙ ap (λ t. t ++ rest') p.3 ∙ append_assoc p.0 p.1 rest'))
-      ∙ stops_next rest (length target) room k s))
+      ∙ stops_next rest (length target) room k s in
+      cc
 
   -- characters that fit lead to one end
   pub one_rest : (input cs source target ds source' target' : List ℕ) (room : ℕ) (j k : End)
@@ -87,5 +82,5 @@ module _ (S T : Meaning) (l : Laws S) where
         go.0,
         spells_one S ds source source' (rw (← go.0) p.leads.from) q.leads.from,
         t,
-        halts_once (sym (stops_next p.rest (length target) room j p.stops) ∙ rw (go.1, t) (stops_next q.rest (length target') room k q.stops)),
+        let e : halts j ≡ halts k = sym (stops_next p.rest (length target) room j p.stops) ∙ rw (go.1, t) (stops_next q.rest (length target') room k q.stops) in cc,
       )

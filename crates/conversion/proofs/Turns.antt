@@ -1,7 +1,7 @@
 -- One turn of a conversion, on lists. Assumes nothing.
-use Rattle.std.proofs.Common.{◌≡◌, ℕ, ◌+◌, ◌-◌, ◌<◌, ◌≤◌, List, [], ◌∷◌, ◌++◌, length, take, drop, Ok, Err, sym, refl, ap, ◌∙◌, append_assoc, append-nil, arith, length-append, length-drop, take-append-drop, length-take, length-take-le, drop-drop, take_at, take-add, drop_at}
+use Rattle.std.proofs.Common.{◌≡◌, ℕ, ◌+◌, ◌-◌, ◌<◌, ◌≤◌, List, [], ◌∷◌, ◌++◌, length, take, drop, Ok, Err, sym, ap, ◌∙◌, append_assoc, append-nil, arith, length-append, length-drop, take-append-drop, length-take, length-take-le, drop-drop, take_at, take-add, drop_at}
 use mathlib.Core.Path.{subst₃}
-use borrow.Rule.Slice.PartMut.{put_mid, post_of}
+use borrow.Rule.Slice.PartMut.{put_mid, post_of, put_same}
 use Rattle.std.proofs.lemmas.List.{take_rest, drop_all}
 use Rattle.charset.specs.declared.Reading.TheVariants as reading
 use Rattle.charset.specs.Meaning.{Meaning, Laws}
@@ -12,7 +12,7 @@ use Rattle.conversion.specs.declared.Step.TheVariants.{Written}
 use Rattle.conversion.specs.Stops.{End, Leads, Stops}
 use Rattle.conversion.specs.Steps.{Steps}
 use Rattle.conversion.specs.Runs.{Runs}
-use Rattle.conversion.proofs.Leading.{leads_none, leads_more}
+use Rattle.conversion.proofs.Leading.{leads_more}
 
 -- what a write to the end part leaves
 put_end : (o last : List ℕ) (put : ℕ) → put ≤ length o → put_mid put (length o - put) o last ≡ take put o ++ last
@@ -30,9 +30,6 @@ pub record Far (S T : Meaning) (input out out' : List ℕ) (count at put : ℕ) 
   pub leads : Leads S T input (length out) chars (take at input) (take put out') (drop at input)
   pub rest : drop put out' ≡ drop put out
   pub size : length out' ≡ length out
-
-pub far_none : (S T : Meaning) → Laws S → (input out : List ℕ) → Far S T input out out 0 0 0
-far_none S T l input out = record { chars = []; counted = refl; few = omega arith; inside = omega arith; room = omega arith; leads = leads_none S T l input (length out); rest = refl; size = refl }
 
 module _ (S T : Meaning) (l : Laws S) (input out o : List ℕ) (count at put : ℕ) (far : Far S T input out o count at put) where
   pub found_size : (c n : ℕ) → Reads S (drop at input) (Ok (reading.Found c n)) → (0 < n) × (at + n ≤ length input)
@@ -79,7 +76,7 @@ module _ (S T : Meaning) (l : Laws S) (input out o : List ℕ) (count at put : �
       → Runs S T input out o' (record { characters = count; read = at; written = put; end = k })
   far_ends k o' last s e o'-is =
       let into = far.room in let inside = far.inside in let same = far.size in
-      let back : o' ≡ o = o'-is ∙ put_end o last put (omega arith) ∙ ap (λ z. take put o ++ z) (e ∙ take_rest o put) ∙ take-append-drop put o in
+      let back : o' ≡ o = o'-is ∙ ap (put_mid put (length o - put) o) e ∙ put_same put (length o - put) o in
       let long : length (take put o) ≡ put = length-take-le put o (omega arith) in
       record {
         chars = far.chars;

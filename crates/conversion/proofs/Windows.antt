@@ -1,11 +1,11 @@
 -- Fronts of strings, and that the first four bytes of a string decide a step. Assumes nothing.
-use Rattle.std.proofs.Common.{◌≡◌, ℕ, ◌+◌, ◌-◌, ◌≤◌, List, ◌++◌, length, take, drop, Ok, Err, Result, sym, ap, ◌∙◌, arith, length-take, take_all}
-use lib.Seq.{drop-append-add}
+use Rattle.std.proofs.Common.{◌≡◌, ℕ, ◌-◌, ◌≤◌, List, ◌++◌, length, take, drop, Ok, Err, Result, sym, ◌∙◌, arith, length-take, take_all}
 use Rattle.std.proofs.lemmas.List.{take_rest}
 use Rattle.charset.specs.declared.Reading.TheVariants as reading
 use Rattle.charset.specs.Meaning.{Meaning, Laws}
 use Rattle.charset.specs.Answers.{Answer, Reads}
 use Rattle.charset.proofs.FrontLemmas.{four_bytes_decide}
+use Rattle.charset.proofs.Places.{drop_behind}
 use Rattle.conversion.specs.declared.Fault.{Fault}
 use Rattle.conversion.specs.declared.Fault.TheVariants.{Unread, Unwritten, Unfinished}
 use Rattle.conversion.specs.declared.Pause.TheVariants.{Open, Full}
@@ -16,9 +16,7 @@ use Rattle.conversion.specs.Steps.{Steps}
 
 -- the bytes from a place behind the first on
 pub behind : (first sector : List ℕ) (at : ℕ) → length first ≤ at → take (length sector - (at - length first)) (drop (at - length first) sector) ≡ drop at (first ++ sector)
-behind first sector at h =
-    let sum : length first + (at - length first) ≡ at = omega arith in
-    take_rest sector (at - length first) ∙ sym (drop-append-add first sector (at - length first)) ∙ ap (λ n. drop n (first ++ sector)) sum
+behind first sector at h = take_rest sector (at - length first) ∙ sym (drop_behind first sector at h)
 
 module _ {S : Meaning} (T : Meaning) (l : Laws S) (s : List ℕ) where
   reads_four : (r : Answer) → Reads S (take 4 s) r → Reads S s r

@@ -1,15 +1,12 @@
 -- Pages that follow one another without a gap. Assumes nothing.
 use Rattle.std.proofs.Common.{◌≡◌, ℕ, zero, suc, ◌+◌, ◌<◌, ◌≤◌, true, false, eqb, leb, List, ◌++◌, take, sym, refl, ap, ◌∙◌, subst, inl, inr, add-one, arith, take-add}
-use Rattle.std.proofs.lemmas.Bool.{cases_lt, and_parts, eqb-true, eq-eqb, leb-true, cond-true}
+use Rattle.std.proofs.lemmas.Bool.{cases_lt, and_parts, eqb-true, eq-eqb, cond-true}
 use Rattle.roll.specs.Format.{index_offset, page_count, offset, size, form, padded, starts, entry_holds, sizes, NoPagesNoBytes, Entries, page_bytes, joined}
 use Rattle.roll.specs.Opened.{FirstBad}
 
 -- what an entry that keeps the rules says
 pub holds_start : (b : List ℕ) (k : ℕ) → entry_holds b k ≡ true → offset b k ≡ starts b k
 holds_start b k h = eqb-true _ _ (and_parts _ _ h).0
-
-pub holds_form : (b : List ℕ) (k : ℕ) → entry_holds b k ≡ true → form b k ≤ 7
-holds_form b k h = leb-true _ _ (and_parts _ _ (and_parts _ _ h).1).0
 
 pub holds_last : (b : List ℕ) (k : ℕ) → entry_holds b k ≡ true → k + 1 ≡ page_count b → offset b k + size b k ≡ index_offset b
 holds_last b k h e =

@@ -9,19 +9,15 @@ use Rattle.conversion.specs.Runs.{Runs}
 use Rattle.conversion.proofs.Turns.{Far, far_more, far_ends}
 use Rattle.conversion.proofs.convert.Goals as goal
 
--- the step as its pattern names it
-step_as : (S T : Meaning) (rest out last : List ℕ) {x y : Step} → x ≡ y → Steps S T rest out last (Ok x) → Steps S T rest out last (Ok y)
-step_as S T rest out last e h = subst (λ z. Steps S T rest out last (Ok z)) e h
-
 module _ {S T : Meaning} (l : Laws S) (held sector out o last : List ℕ) {count at put : ℕ} (far : Far S T (held ++ sector) out o count at put) where
   abbrev part : List ℕ
   part = take (length o - put) (drop put o)
 
   more : (n k : ℕ) {x : Step} → x ≡ Written n k → Steps S T (drop at (held ++ sector)) part last (Ok x) → Far S T (held ++ sector) out (put_mid put (length o - put) o last) (count + 1) (at + n) (put + k)
-  more n k e s = far_more S T l (held ++ sector) out o count at put far _ last n k (step_as S T _ _ _ e s) refl
+  more n k e s = far_more S T l (held ++ sector) out o count at put far _ last n k (subst (λ z. Steps S T (drop at (held ++ sector)) part last (Ok z)) e s) refl
 
   ends : (p : Pause) {x : Step} → x ≡ Paused p → Steps S T (drop at (held ++ sector)) part last (Ok x) → Runs S T (held ++ sector) out (put_mid put (length o - put) o last) (record { characters = count; read = at; written = put; end = Ok p })
-  ends p e s = let w = step_as S T _ _ _ e s in far_ends S T l (held ++ sector) out o count at put far (Ok p) _ last w.0 w.1 refl
+  ends p e s = let w = subst (λ z. Steps S T (drop at (held ++ sector)) part last (Ok z)) e s in far_ends S T l (held ++ sector) out o count at put far (Ok p) _ last w.0 w.1 refl
 
 pub run-preserved : goal.run-preserved
 run-preserved g c =
