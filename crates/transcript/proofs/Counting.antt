@@ -36,15 +36,11 @@ module _ (S T : Meaning) (l : Laws S) (k : Laws T) (s : Snapshot) (sector out af
       record {
         within = omega arith;
         one_byte_each = omega (arith, from.0);
-        none_read = λ z. r ∙ none_spelt h.chars h.source h.reaches.leads.from (sym c ∙ z);
+        none_read = λ z. omega (arith, from.1);
         four_bytes_each = rw (w, c) into.1;
         opening = λ o. rw rest_is (opening_short run.end o h.reaches.rest (length h.target) (length out) h.reaches.stops);
         limit = grind (arith, nat_tests);
       }
-    where
-      none_spelt : (cs t : List ℕ) → Spells S cs t → length cs ≡ 0 → length t ≡ 0
-      none_spelt [] t p z = ap length p
-      none_spelt (c ∷ cs) t p z = absurd (omega arith)
 
   worked : (r : OfferAnswer) (t : Snapshot) → Settles s sector run r t → Worked S T s sector out r after t
   worked r t st =

@@ -1,9 +1,9 @@
 // The calls of a transcript.
-ghost use Rattle.std.specs.Prelude.{◌≡◌, ◌+◌, None};
+ghost use Rattle.std.specs.Prelude.{◌≡◌};
 ghost use Rattle.charset.specs.Sets.{set_of};
 ghost use Rattle.transcript.specs.Calls.{fresh, limits, OfferedIf, status_of};
 ghost use Rattle.transcript.specs.Snapshots.{snapshot};
-ghost use Rattle.transcript.specs.Uses.{start, offer, close, status, Step};
+ghost use Rattle.transcript.specs.Uses.{start, offer, close, Step};
 ghost use Rattle.transcript.specs.Called.{Called};
 
 use crate::progress::Progress;
