@@ -3,12 +3,12 @@ use Rattle.std.proofs.Common.{◌≡◌, ℕ, ◌+◌, ◌≤◌, Bool, true, fa
 use lib.Seq.{take-append_seam, take-append-le}
 use Rattle.std.proofs.lemmas.Bool.{both_ways, cases_lt, ltb-true}
 use Rattle.std.proofs.lemmas.List.{nil_from_length}
+use Rattle.std.proofs.lemmas.Option.{none-some}
 use Rattle.charset.specs.declared.SetRefusal.{SetRefusal}
 use Rattle.charset.specs.declared.Reading.TheVariants as reading
 use Rattle.charset.specs.Meaning.{Meaning, Laws}
 use Rattle.charset.specs.Answers.{Reads}
 use Rattle.charset.specs.Decoding.{Spells}
-use Rattle.charset.proofs.FrontLemmas.{none_some}
 use Rattle.charset.proofs.Spelling.{spells_append, spells_split, spells_one, fronts, same_coding}
 use Rattle.conversion.specs.declared.Fault.TheVariants.{Unread, Unwritten, Unfinished}
 use Rattle.conversion.specs.declared.Pause.TheVariants as pause
@@ -18,7 +18,7 @@ use Rattle.answers.specs.declared.Refusal.TheVariants as refusal
 use Rattle.transcript.specs.Calls.{Snapshot, OfferAnswer, limits, refused, takes, answers, state_after, offset_of, OfferedIf}
 use Rattle.transcript.specs.Uses.{Event, start, offer, close, status, Step, Use, made, call, taken_in, written_in}
 use Rattle.law.specs.Law.{StandsOn, StatusTells, Feeds, Faultless, AllFaultless, GoesBack, TranscriptionLaw}
-use Rattle.law.proofs.Keeping.{stands}
+use Rattle.law.proofs.Keeping.{stands, regroup_more}
 use Rattle.law.proofs.Exact.{offers_exactly, closes_exactly}
 use Rattle.law.proofs.Answered.{one_outcome}
 
@@ -37,7 +37,7 @@ module _ (S T : Meaning) (l : Laws S) where
   no_char (d ∷ es) e rest more c n p q h k =
       let e' : take n rest ++ (drop n rest ++ more) ≡ p.0 ++ p.1 = sym (append_assoc (take n rest) (drop n rest) more) ∙ ap (λ t. t ++ more) (take-append-drop n rest) ∙ p.3 in
       let same = same_coding l (take n rest) p.0 (drop n rest ++ more) p.1 c d h.1 (l.written d _ p.2) e' in
-      none_some {x = q.0} (sym k ∙ rw same.1 q.2)
+      none-some q.0 (sym k ∙ rw same.1 q.2)
 
   no_bad : (es rest more : List ℕ) (q : SetRefusal) → Spells S es (rest ++ more) → Reads S rest (Err q) → ⊥
   no_bad [] rest more q p h = let none : rest ≡ [] = nil_from_length rest (omega (arith, ap length p, length-append rest more)) in both_ways _ h.0.1 (rw none l.empty_opens)
@@ -86,10 +86,7 @@ module _ (S T : Meaning) (l : Laws S) where
         let m = st.decodes in
         let lead = g.reaches.leads in
         let rest = g.reaches.rest in
-        let joined : w ≡ (m.spelt ++ g.source) ++ (rest ++ more) =
-        e ∙ ap (λ z. z ++ (sector ++ more)) m.parts ∙ append_assoc m.spelt s.held (sector ++ more)
-        ∙ ap (λ z. m.spelt ++ z) (sym (append_assoc s.held sector more) ∙ ap (λ z. z ++ more) lead.begins ∙ append_assoc g.source rest more)
-        ∙ sym (append_assoc m.spelt g.source (rest ++ more)) in
+        let joined : w ≡ (m.spelt ++ g.source) ++ (rest ++ more) = e ∙ regroup_more bytes m.spelt s.held sector g.source rest m.parts lead.begins more in
         let left = tail cs (st.chars ++ g.chars) (m.spelt ++ g.source) w v (rest ++ more) h k (spells_append S st.chars g.chars m.spelt g.source m.spells lead.from) joined in
         goes_on t sector out r after g.end (offset_of s g.source) (takes g.end s.held sector g.source) (length g.target)
         (harmless g.end left.0 left.1 rest more (length g.target) (length out) left.2 left.3 g.reaches.stops) g.answer (ap (λ z. z.state) g.next)

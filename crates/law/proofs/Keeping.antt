@@ -21,6 +21,14 @@ taken_part held sector source rest e h =
     let n_is : length held + (length source - length held) ≡ length source = omega arith in
     sym (take-append-add held sector (length source - length held)) ∙ rw (n_is, e) (take-append_seam source rest)
 
+-- bytes that are spelt but for what is held, and a part that goes with it
+module _ (bytes spelt held part source rest : List ℕ) (p : bytes ≡ spelt ++ held) (e : held ++ part ≡ source ++ rest) where
+  pub regroup : bytes ++ part ≡ (spelt ++ source) ++ rest
+  regroup = ap (λ t. t ++ part) p ∙ append_assoc spelt held part ∙ ap (λ t. spelt ++ t) e ∙ sym (append_assoc spelt source rest)
+
+  pub regroup_more : (more : List ℕ) → bytes ++ (part ++ more) ≡ (spelt ++ source) ++ (rest ++ more)
+  regroup_more more = sym (append_assoc bytes part more) ∙ ap (λ t. t ++ more) regroup ∙ append_assoc (spelt ++ source) rest more
+
 -- what an answer tells taken and written
 pub answer_took : (k : End) (o n w : ℕ) → (took (answers k o n w) ≡ n) × (wrote (answers k o n w) ≡ w)
 answer_took (Ok pause.Open) o n w = (refl, refl)
@@ -80,7 +88,7 @@ module _ (S T : Meaning) (l : Laws S) where
       (record {
         spelt = m.spelt ++ source;
         spells = spells_append S h.chars chars m.spelt source m.spells from;
-        parts = ap (λ t. t ++ take n sector) m.parts ∙ append_assoc m.spelt s.held (take n sector) ∙ ap (λ t. m.spelt ++ t) e ∙ sym (append_assoc m.spelt source held');
+        parts = regroup bytes m.spelt s.held (take n sector) source held' m.parts e;
         opens = o;
       })
       (spells_append T h.chars chars out target h.writes into)
