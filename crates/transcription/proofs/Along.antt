@@ -1,11 +1,10 @@
 -- Offers of a text, sector after sector, and what they come to. Assumes nothing.
-use Rattle.std.proofs.Common.{◌≡◌, ℕ, ◌+◌, ◌≤◌, List, [], ◌∷◌, ◌++◌, length, take, Some, None, Ok, Err, sym, refl, ap, ◌∙◌, arith, length-append}
-use lib.Seq.{take-append_seam, take-append-le}
+use Rattle.std.proofs.Common.{◌≡◌, ℕ, ◌+◌, ◌≤◌, List, [], ◌∷◌, ◌++◌, length, take, Some, None, Ok, Err, sym, refl, ap, ◌∙◌, arith, length-append, drop, Option, subst, take_at, drop_at}
 use Rattle.std.proofs.lemmas.Bool.Decides.{nat_tests}
 use Rattle.charset.specs.declared.Reading.TheVariants.{Found}
-use Rattle.charset.specs.Meaning.{Meaning, Unreadable, Laws}
-use Rattle.charset.specs.Answers.{Reads}
-use Rattle.charset.proofs.FrontLemmas.{bad_grows}
+use Rattle.charset.specs.Meaning.{Meaning, Laws}
+use Rattle.charset.proofs.FrontLemmas.{reads_on}
+use Rattle.charset.specs.Decoding.{Spells}
 use Rattle.conversion.specs.declared.Fault.{Fault}
 use Rattle.conversion.specs.declared.Fault.TheVariants.{Unread, Unwritten, Unfinished}
 use Rattle.conversion.specs.Stops.{Stops}
@@ -13,7 +12,7 @@ use Rattle.answers.specs.declared.State.TheVariants.{Open}
 use Rattle.transcript.specs.Calls.{Snapshot, fresh, limits}
 use Rattle.transcript.specs.Uses.{Event, start, Use, made, taken_in, written_in}
 use Rattle.law.specs.Law.{Feeds}
-use Rattle.conversion.specs.Transcribed.{Ends}
+use Rattle.conversion.specs.Transcribed.{Ends, Transcribed}
 use Rattle.transcription.specs.Carried.{AllTakenOrFaulted}
 
 -- the bytes before the rest are offered and taken, and their text is written
@@ -33,19 +32,21 @@ along_none S T bytes s e = rw e (record { offers = start ∷ []; used = made; fe
 pub within : (taken : ℕ) (sector out : List ℕ) → length sector ≤ 4096 → length out ≤ 65536 → taken + length sector ≤ 4294967296 → limits taken sector out ≡ None
 within taken sector out a b c = grind (arith, nat_tests)
 
+-- a text that is spelt up to an offset, and ends there
+pub up_to : (S T : Meaning) (bytes text spelt rest chars : List ℕ) (count offset : ℕ) (stop : Option Fault) → bytes ≡ spelt ++ rest → length spelt ≡ offset → count ≡ length chars
+    → Spells S chars spelt → Spells T chars text → Ends S T rest stop → Transcribed S T bytes text count offset stop
+up_to S T bytes text spelt rest chars count offset stop whole size counted from into e = record {
+  chars = chars;
+  counted = counted;
+  inside = omega (arith, ap length whole ∙ length-append spelt rest);
+  from = subst (λ z. Spells S chars z) (sym (ap (take offset) whole ∙ take_at spelt rest offset size)) from;
+  into = into;
+  ends = subst (λ z. Ends S T z stop) (sym (ap (drop offset) whole ∙ drop_at spelt rest offset size)) e;
+}
+
 module _ {S : Meaning} (T : Meaning) (l : Laws S) where
-  -- what is read in front is read whatever follows
-  found_on : (s more : List ℕ) (c n : ℕ) → Reads S s (Ok (Found c n)) → Reads S (s ++ more) (Ok (Found c n))
-  found_on s more c n h = (rw (length-append s more) (omega (arith, h.0)), rw (take-append-le n s more h.0) h.1)
-
-  bad_on : (s more : List ℕ) (q : _) → Reads S s (Err q) → Reads S (s ++ more) (Err q)
-  bad_on s more q h =
-      let here : take (length s) (s ++ more) ≡ s = take-append_seam s more in
-      let bad : Unreadable S (take (length s) (s ++ more)) = rw here h.0 in
-      (bad_grows l (s ++ more) (length s) bad, h.1 ∙ sym (l.cause_stays (s ++ more) (length s) bad ∙ ap (λ t. S.causes t) here))
-
   -- where an offer faults, the text ends
   pub ends_on : (f : Fault) (rest more : List ℕ) (used room : ℕ) → Stops S T rest used room (Err f) → Ends S T (rest ++ more) (Some f)
-  ends_on (Unread q) rest more used room h = bad_on rest more q h
-  ends_on (Unwritten c) rest more used room h = (h.0, found_on rest more c h.0 h.1, h.2)
+  ends_on (Unread q) rest more used room h = reads_on l rest more (Err q) (λ e. cc) h
+  ends_on (Unwritten c) rest more used room h = (h.0, reads_on l rest more (Ok (Found c h.0)) (λ e. cc) h.1, h.2)
   ends_on Unfinished rest more used room h = absurd h

@@ -1,5 +1,5 @@
 -- The end of a text: its last offer faulted, or all is taken and the transcript is closed. Assumes nothing.
-use Rattle.std.proofs.Common.{◌≡◌, ℕ, ◌+◌, ◌-◌, List, [], ◌∷◌, ◌++◌, length, take, drop, Some, None, Ok, Err, sym, refl, ap, ◌∙◌, subst, inl, inr, arith, length-append, append-nil, take_at, drop_at}
+use Rattle.std.proofs.Common.{◌≡◌, ℕ, ◌+◌, ◌-◌, List, [], ◌∷◌, ◌++◌, length, Some, None, Ok, Err, sym, refl, ap, ◌∙◌, subst, inl, inr, arith, length-append, append-nil}
 use Rattle.charset.specs.Meaning.{Meaning, Laws}
 use Rattle.charset.specs.Decoding.{Spells}
 use Rattle.conversion.specs.declared.Fault.TheVariants.{Unfinished}
@@ -11,10 +11,10 @@ use Rattle.transcript.specs.Uses.{close, status, Step, call, taken_in, written_i
 use Rattle.law.specs.Law.{StandsOn}
 use Rattle.law.proofs.Keeping.{stands}
 use Rattle.conversion.specs.Transcribed.{Ends, Transcribed, TheTranscript}
-use Rattle.transcription.specs.Carried.{Outcome, fault_in, offset_in, closing, CarriedOut}
+use Rattle.transcription.specs.Carried.{Outcome, fault_in, offset_in, refused_by, CarriedOut}
 use Rattle.conversion.proofs.Once.{the_transcript}
-use Rattle.transcription.proofs.Along.{Along}
-use Rattle.transcription.proofs.Sectors.{Stopped, refused_by}
+use Rattle.transcription.proofs.Along.{Along, up_to}
+use Rattle.transcription.proofs.Sectors.{Stopped}
 
 -- what is promised of a text and its outcome
 abbrev pub Promised : Meaning → Meaning → (bytes text : List ℕ) → ℕ → Outcome → Type 0
@@ -54,15 +54,9 @@ module _ (S T : Meaning) (l : Laws S) (bytes text : List ℕ) where
     whole = sym taken_all ∙ before.decodes.parts
 
     -- up to the held bytes the text is transcribed
-    up_to : (offset : ℕ) (stop : _) → length before.decodes.spelt ≡ offset → Ends S T s.held stop → Transcribed S T bytes text s.characters offset stop
-    up_to offset stop size e = record {
-      chars = before.chars;
-      counted = before.counts_characters;
-      inside = omega (arith, ap length whole ∙ length-append before.decodes.spelt s.held);
-      from = subst (λ z. Spells S before.chars z) (sym (ap (take offset) whole ∙ take_at before.decodes.spelt s.held offset size)) before.decodes.spells;
-      into = subst (λ z. Spells T before.chars z) (sym along.text_is) before.writes;
-      ends = subst (λ z. Ends S T z stop) (sym (ap (drop offset) whole ∙ drop_at before.decodes.spelt s.held offset size)) e;
-    }
+    ends_at : (offset : ℕ) (stop : _) → length before.decodes.spelt ≡ offset → Ends S T s.held stop → Transcribed S T bytes text s.characters offset stop
+    ends_at offset stop size e =
+        up_to S T bytes text before.decodes.spelt s.held before.chars s.characters offset stop whole size before.counts_characters before.decodes.spells (subst (λ z. Spells T before.chars z) (sym along.text_is) before.writes) e
 
     closes : (t : Snapshot) (r : CloseAnswer) → Step S T s (close r) t → ClosesTo S T bytes text t.characters r
     closes t r st = go s.held refl r (subst (λ z. ClosedOn z s.held s r t) along.going st)
@@ -74,20 +68,20 @@ module _ (S T : Meaning) (l : Laws S) (bytes text : List ℕ) where
         count = before.counts_taken ∙ ap length taken_all
 
         go : (h : List ℕ) → s.held ≡ h → (r : CloseAnswer) → ClosedOn Open h s r t → ClosesTo S T bytes text t.characters r
-        go [] e (Ok u) c = rw c.1 (up_to (length bytes) None (omega (arith, size, ap length e)) e)
+        go [] e (Ok u) c = rw c.1 (ends_at (length bytes) None (omega (arith, size, ap length e)) e)
         go [] e (Err q) c = let x = c.0 in cc
         go (b ∷ bs) e (Ok u) c = let x = c.0 in cc
         go (b ∷ bs) e (Err q) c =
             let same : q ≡ refusal.Faulted (unfinished s) = (let x = c.0 in cc) in
-            (unfinished s, same, rw c.1 (up_to (s.taken - length s.held) (Some Unfinished) (omega (arith, size, count)) (before.decodes.opens, omega (arith, ap length e))))
+            (unfinished s, same, rw c.1 (ends_at (s.taken - length s.held) (Some Unfinished) (omega (arith, size, count)) (before.decodes.opens, omega (arith, ap length e))))
 
     pub after_closing : (t : Snapshot) (r : CloseAnswer) (o : Outcome) → Step S T s (close r) t → r ≡ refused_by o → Promised S T bytes text t.characters o
     after_closing t r o st e =
-        let step : Step S T s (close (closing o)) t = subst (λ z. Step S T s (close z) t) (e ∙ as_closing o) st in (
-          the_transcript S T l (by_outcome o (closes t (closing o) step)),
+        let step : Step S T s (close (refused_by o)) t = subst (λ z. Step S T s (close z) t) e st in (
+          the_transcript S T l (by_outcome o (closes t (refused_by o) step)),
           record {
             offers = along.offers;
-            events = status (status_of t) ∷ (close (closing o) ∷ along.offers);
+            events = status (status_of t) ∷ (close (refused_by o) ∷ along.offers);
             last = t;
             told = status_of t;
             used = call (call along.used step) (refl, refl);
@@ -99,10 +93,6 @@ module _ (S T : Meaning) (l : Laws S) (bytes text : List ℕ) where
           },
         )
       where
-        as_closing : (o : Outcome) → refused_by o ≡ closing o
-        as_closing (Ok u) = refl
-        as_closing (Err f) = refl
-
-        by_outcome : (o : Outcome) → ClosesTo S T bytes text t.characters (closing o) → Transcribed S T bytes text t.characters (offset_in bytes o) (fault_in o)
+        by_outcome : (o : Outcome) → ClosesTo S T bytes text t.characters (refused_by o) → Transcribed S T bytes text t.characters (offset_in bytes o) (fault_in o)
         by_outcome (Ok u) h = h
         by_outcome (Err f) h = let same : h.0 ≡ f = (let x = h.1 in cc) in subst (λ z. Transcribed S T bytes text t.characters z.offset (Some z.fault)) same h.2

@@ -1,5 +1,5 @@
 -- One sector more: the text goes on, or ends in a fault, and the output is never too small. Assumes nothing.
-use Rattle.std.proofs.Common.{◌≡◌, ℕ, ◌+◌, ◌≤◌, ◌⊎◌, List, ◌∷◌, ◌++◌, length, take, drop, Some, None, Ok, Err, Result, sym, refl, ap, ◌∙◌, subst, inl, inr, append_assoc, arith, length-append, length-take, take_at, drop_at}
+use Rattle.std.proofs.Common.{◌≡◌, ℕ, ◌+◌, ◌≤◌, ◌⊎◌, List, ◌∷◌, ◌++◌, length, take, Some, None, Ok, Err, Result, sym, refl, ap, ◌∙◌, subst, inl, inr, append_assoc, arith, length-append, length-take}
 use lib.Seq.{take-append_seam, take-length}
 use Rattle.charset.specs.Meaning.{Meaning, Laws}
 use Rattle.charset.specs.Decoding.{Spells}
@@ -16,10 +16,10 @@ use Rattle.transcript.specs.Calls.{Snapshot, OfferAnswer, refused, takes, answer
 use Rattle.transcript.specs.Uses.{Event, offer, Step, Use, call, wrote, taken_in, written_in}
 use Rattle.law.specs.Law.{Feeds, StandsOn}
 use Rattle.transcript.proofs.Counting.{spelt_size}
-use Rattle.law.proofs.Keeping.{stands}
-use Rattle.conversion.specs.Transcribed.{Ends, Transcribed}
-use Rattle.transcription.specs.Carried.{TakenOrFaulted, AllTakenOrFaulted}
-use Rattle.transcription.proofs.Along.{Along, within, ends_on}
+use Rattle.law.proofs.Keeping.{stands, regroup_more}
+use Rattle.conversion.specs.Transcribed.{Transcribed}
+use Rattle.transcription.specs.Carried.{refused_by, TakenOrFaulted, AllTakenOrFaulted}
+use Rattle.transcription.proofs.Along.{Along, up_to, within, ends_on}
 
 -- a last offer met a fault
 pub record Stopped (S T : Meaning) (bytes text : List ℕ) (f : FaultAt) (t : Snapshot) : Type 0 where
@@ -30,11 +30,6 @@ pub record Stopped (S T : Meaning) (bytes text : List ℕ) (f : FaultAt) (t : Sn
   pub state_is : t.state ≡ Faulted f
   pub text_is : text ≡ written_in offers
   pub transcribed : Transcribed S T bytes text t.characters f.offset (Some f.fault)
-
--- an answer that is taken or meets a fault, as an answer of a transcript
-abbrev pub refused_by : {X : Type 0} → Result X FaultAt → Result X Refusal
-refused_by (Ok x) = Ok x
-refused_by (Err f) = Err (refusal.Faulted f)
 
 -- what an offer comes to
 abbrev pub ComesTo : Meaning → Meaning → (bytes text after more : List ℕ) → Snapshot → Result Done FaultAt → Type 0
@@ -88,11 +83,7 @@ module _ (S T : Meaning) (l : Laws S) (k : Laws T) (bytes text rest : List ℕ) 
 
   -- the bytes of the text, by what is spelt before and in the offer
   split : (chars source target : List ℕ) (e : End) (h : Reaches S T (s.held ++ sector) (length out) e chars source target) → bytes ≡ (before.decodes.spelt ++ source) ++ (h.rest ++ more)
-  split chars source target e h =
-      let spelt = before.decodes.spelt in
-      whole ∙ ap (λ z. z ++ (sector ++ more)) before.decodes.parts ∙ append_assoc spelt s.held (sector ++ more)
-      ∙ ap (λ z. spelt ++ z) (sym (append_assoc s.held sector more) ∙ ap (λ z. z ++ more) h.leads.begins ∙ append_assoc source h.rest more)
-      ∙ sym (append_assoc spelt source (h.rest ++ more))
+  split chars source target e h = whole ∙ regroup_more (taken_in along.offers) before.decodes.spelt s.held sector source h.rest before.decodes.parts h.leads.begins more
 
   spelt_long : (source : List ℕ) → length (before.decodes.spelt ++ source) ≡ offset_of s source
   spelt_long source =
@@ -103,18 +94,11 @@ module _ (S T : Meaning) (l : Laws S) (k : Laws T) (bytes text rest : List ℕ) 
   fault_ends : (f : Fault) (chars source target : List ℕ) (count : ℕ) → Reaches S T (s.held ++ sector) (length out) (Err f) chars source target → count ≡ s.characters + length chars
       → Transcribed S T bytes (text ++ target) count (offset_of s source) (Some f)
   fault_ends f chars source target count h c =
-      let whole = split chars source target (Err f) h in
-      let size = spelt_long source in
-      record {
-        chars = before.chars ++ chars;
-        counted = c ∙ ap (λ n. n + length chars) before.counts_characters ∙ sym (length-append before.chars chars);
-        inside = omega (arith, size, ap length whole ∙ length-append (before.decodes.spelt ++ source) (h.rest ++ more));
-        from = subst (λ z. Spells S (before.chars ++ chars) z) (sym (ap (take (offset_of s source)) whole ∙ take_at (before.decodes.spelt ++ source) (h.rest ++ more) (offset_of s source) size))
-            (spells_append S before.chars chars before.decodes.spelt source before.decodes.spells h.leads.from);
-        into = subst (λ z. Spells T (before.chars ++ chars) (z ++ target)) (sym along.text_is) (spells_append T before.chars chars (written_in along.offers) target before.writes h.leads.into);
-        ends = subst (λ z. Ends S T z (Some f)) (sym (ap (drop (offset_of s source)) whole ∙ drop_at (before.decodes.spelt ++ source) (h.rest ++ more) (offset_of s source) size))
-            (ends_on T l f h.rest more (length target) (length out) h.stops);
-      }
+      up_to S T bytes (text ++ target) (before.decodes.spelt ++ source) (h.rest ++ more) (before.chars ++ chars) count (offset_of s source) (Some f)
+      (split chars source target (Err f) h) (spelt_long source) (c ∙ ap (λ n. n + length chars) before.counts_characters ∙ sym (length-append before.chars chars))
+      (spells_append S before.chars chars before.decodes.spelt source before.decodes.spells h.leads.from)
+      (subst (λ z. Spells T (before.chars ++ chars) (z ++ target)) (sym along.text_is) (spells_append T before.chars chars (written_in along.offers) target before.writes h.leads.into))
+      (ends_on T l f h.rest more (length target) (length out) h.stops)
 
   -- the text so far, with what the offer wrote
   text_more : (r : OfferAnswer) (n : ℕ) → wrote r ≡ n → text ++ take n after ≡ written_in (offer sector out r after ∷ along.offers)

@@ -3,10 +3,11 @@ use Rattle.std.specs.Prelude.{◌≡◌, ℕ, ◌⊎◌, List, [], ◌∷◌, le
 use Rattle.charset.specs.Meaning.{Meaning}
 use Rattle.conversion.specs.declared.Fault.{Fault}
 use Rattle.answers.specs.declared.FaultAt.{FaultAt}
+use Rattle.answers.specs.declared.Refusal.{Refusal}
 use Rattle.answers.specs.declared.Refusal.TheVariants as refusal
 use Rattle.answers.specs.declared.State.TheVariants as state
 use Rattle.answers.specs.declared.Status.{Status}
-use Rattle.transcript.specs.Calls.{Snapshot, OfferAnswer, CloseAnswer}
+use Rattle.transcript.specs.Calls.{Snapshot, OfferAnswer}
 use Rattle.transcript.specs.Uses.{Event, start, offer, close, status, Use, taken_in, written_in}
 use Rattle.law.specs.Law.{Feeds}
 
@@ -23,9 +24,10 @@ abbrev pub offset_in : List ℕ → Outcome → ℕ
 offset_in bytes (Ok u) = length bytes
 offset_in bytes (Err f) = f.offset
 
-abbrev pub closing : Outcome → CloseAnswer
-closing (Ok u) = Ok tt
-closing (Err f) = Err (refusal.Faulted f)
+-- an answer that is taken or meets a fault, as an answer of a transcript
+abbrev pub refused_by : {X : Type 0} → Result X FaultAt → Result X Refusal
+refused_by (Ok x) = Ok x
+refused_by (Err f) = Err (refusal.Faulted f)
 
 -- an offer that is taken or meets a fault, and no other: in particular no output was too small
 abbrev pub TakenOrFaulted : OfferAnswer → Type 0
@@ -49,7 +51,7 @@ AllTakenOrFaulted (status r ∷ past) = AllTakenOrFaulted past
 abbrev pub Ended : List ℕ → List Event → List Event → Snapshot → Outcome → Status → Type 0
 Ended bytes offers events last outcome told =
     ((f : FaultAt) × (outcome ≡ Err f) × (last.state ≡ state.Faulted f) × (events ≡ status told ∷ offers))
-    ⊎ ((taken_in offers ≡ bytes) × (events ≡ status told ∷ (close (closing outcome) ∷ offers)))
+    ⊎ ((taken_in offers ≡ bytes) × (events ≡ status told ∷ (close (refused_by outcome) ∷ offers)))
 
 -- a use of a transcript in which the bytes were offered, and what it came to
 pub record CarriedOut (S T : Meaning) (bytes text : List ℕ) (characters : ℕ) (outcome : Outcome) : Type 0 where

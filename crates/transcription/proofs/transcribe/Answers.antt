@@ -14,8 +14,8 @@ use Rattle.transcript.specs.Snapshots.{snapshot}
 use Rattle.transcript.specs.Uses.{offer, close, Step}
 use Rattle.law.proofs.Whole.{the_law}
 use Rattle.transcription.proofs.Along.{Along, along_none}
-use Rattle.transcription.specs.Carried.{Outcome}
-use Rattle.transcription.proofs.Sectors.{refused_by, ComesTo, comes_to}
+use Rattle.transcription.specs.Carried.{Outcome, refused_by}
+use Rattle.transcription.proofs.Sectors.{ComesTo, comes_to}
 use Rattle.transcription.proofs.Ending.{Promised, after_fault, after_closing}
 use Rattle.transcription.proofs.transcribe.Given.{Over}
 use Rattle.transcription.proofs.transcribe.Goals as goal
