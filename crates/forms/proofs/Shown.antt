@@ -1,20 +1,13 @@
 -- The worked examples, by computing. Assumes nothing.
 use Rattle.std.proofs.Common.{◌≡◌, ℕ, ◌≤◌, List, [], ◌∷◌, ◌++◌, length, Ok, Err, refl, arith}
-use lib.Count.{ones}
 use Rattle.charset.specs.declared.Reading.TheVariants as reading
-use Rattle.charset.specs.Answers.{Answer, Reads, reading}
-use Rattle.charset.specs.Meaning.{Meaning, Laws}
+use Rattle.charset.specs.Answers.{Reads, reading}
+use Rattle.charset.specs.Meaning.{Meaning}
 use Rattle.charset.specs.Decoding.{Spells}
-use Rattle.charset.proofs.FrontLemmas.{reading_reads}
-use Rattle.sets.specs.declared.cause.Cause.TheVariants.{NotInUse, NoPair}
-use Rattle.sets.specs.Causes.{refusal}
 use Rattle.sets.specs.Search.{first_from}
 use Rattle.sets.specs.Iso6937Table.{supplementary, diacritics}
 use Rattle.sets.specs.Iso6937.{iso6937}
 use Rattle.sets.specs.Iso6937Laws.{iso6937_laws}
-use Rattle.sets.specs.Utf8Laws.{utf8_laws}
-use Rattle.layers.specs.Depth.{own, up}
-use Rattle.layers.specs.LayersKeep.{shift_laws, parity_laws}
 use Rattle.sets.specs.SingleByte.{single_byte}
 use Rattle.sets.specs.SingleByteTables.{iso8859_16}
 use Rattle.conversion.specs.declared.Fault.TheVariants.{Unwritten}
@@ -33,17 +26,9 @@ use Rattle.forms.specs.Examples.{WorkedExamples}
 abbrev latin : Meaning
 latin = single_byte iso8859_16
 
-acute_open : Reads iso6937 (0xc2 ∷ []) (Ok reading.Open)
-unfolding reading supplementary diacritics first_from
-acute_open = by_reading iso6937_laws (0xc2 ∷ []) (Ok reading.Open) refl
-
 cedilla_read : Reads iso6937 (0xcb ∷ 0x73 ∷ []) (Ok (reading.Found 0x15f 2))
 unfolding reading supplementary diacritics first_from
 cedilla_read = by_reading iso6937_laws (0xcb ∷ 0x73 ∷ []) (Ok (reading.Found 0x15f 2)) refl
-
-nothing_open : Reads iso6937 [] (Ok reading.Open)
-unfolding reading supplementary diacritics first_from
-nothing_open = by_reading iso6937_laws [] (Ok reading.Open) refl
 
 -- an end behind some characters
 abbrev reaching : (input : List ℕ) (room : ℕ) (e : End) (chars source target rest : List ℕ) → Spells iso6937 chars source → Spells latin chars target → input ≡ source ++ rest → length target ≤ room → Stops iso6937 latin rest (length target) room e
@@ -56,7 +41,7 @@ acute_offered = call made (record {
   source = [];
   target = [];
   end = Ok pause.Open;
-  reaches = reaching (0xc2 ∷ []) 1 (Ok pause.Open) [] [] [] (0xc2 ∷ []) refl refl refl (omega arith) acute_open;
+  reaches = reaching (0xc2 ∷ []) 1 (Ok pause.Open) [] [] [] (0xc2 ∷ []) refl refl refl (omega arith) of_sets_and_layers.acute_open;
   answer = refl;
   left = refl;
   next = refl;
@@ -69,7 +54,7 @@ letter_offered = call acute_offered (record {
   source = 0xc2 ∷ 0x65 ∷ [];
   target = 0xe9 ∷ [];
   end = Ok pause.Open;
-  reaches = reaching (0xc2 ∷ 0x65 ∷ []) 1 (Ok pause.Open) (0xe9 ∷ []) (0xc2 ∷ 0x65 ∷ []) (0xe9 ∷ []) [] (0xc2 ∷ 0x65 ∷ [], [], refl, refl, refl) (0xe9 ∷ [], [], refl, refl, refl) refl (omega arith) nothing_open;
+  reaches = reaching (0xc2 ∷ 0x65 ∷ []) 1 (Ok pause.Open) (0xe9 ∷ []) (0xc2 ∷ 0x65 ∷ []) (0xe9 ∷ []) [] (0xc2 ∷ 0x65 ∷ [], [], refl, refl, refl) (0xe9 ∷ [], [], refl, refl, refl) refl (omega arith) iso6937_laws.empty_opens;
   answer = refl;
   left = refl;
   next = refl;

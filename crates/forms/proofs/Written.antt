@@ -1,19 +1,15 @@
 -- Every character of every form has a coding in UTF-8. Assumes nothing.
-use Rattle.std.proofs.Common.{◌≡◌, ℕ, Bool, true, false, cond, ltb, List, [], ◌∷◌, take, drop, IfOk, Some, None, Ok, Err, Option, Result, sym, refl, ◌∙◌, subst, inl, inr, arith}
-use Rattle.std.proofs.lemmas.Bool.{ltb-true}
-use Rattle.std.proofs.lemmas.Bool.Decides.{nat_tests}
+use Rattle.std.proofs.Common.{◌≡◌, ℕ, true, List, [], ◌∷◌, take, drop, IfOk, Some, Ok, Err, Option, Result, sym, refl, ◌∙◌, subst, inl, inr, arith}
+use Rattle.std.proofs.lemmas.Option.{none-some}
 use Rattle.charset.specs.Meaning.{Meaning, Codes, Laws}
-use Rattle.sets.specs.Search.{every_from}
-use Rattle.sets.specs.Columns.{ascii, upper_at}
 use Rattle.sets.specs.Iso6937.{iso6937}
 use Rattle.sets.specs.SingleByte.{single_byte}
 use Rattle.sets.specs.SingleByteTables.{iso8859_16, sami}
 use Rattle.sets.specs.Utf8.{utf8}
-use Rattle.sets.specs.CodeTable.{upper_byte}
+use Rattle.sets.specs.CodeTable.{all_low, low_at}
 use Rattle.sets.specs.Iso6937Laws.{iso6937_laws, low_character}
 use Rattle.sets.specs.SingleByteLaws.{single_byte_laws}
 use Rattle.sets.proofs.SingleByteTables.{iso8859_16_once, sami_once}
-use Rattle.sets.specs.Tables.{no_none, some_same, every_at}
 use Rattle.sets.specs.Utf8Laws.{utf8_laws, low_written}
 use Rattle.layers.specs.CharacterList.{required}
 use Rattle.layers.specs.Layers.{parity, shift, sub, controls}
@@ -38,25 +34,10 @@ InUtf8 c = (v : List ℕ) × (utf8.codings.string c ≡ Some v)
 abbrev AllInUtf8 : Meaning → Type 0
 AllInUtf8 m = (s : List ℕ) (c : ℕ) → Codes m s c → InUtf8 c
 
--- the upper half of a code table has no character from U+D800 up, by a test over the whole
-abbrev low : Option ℕ → Bool
-low None = true
-low (Some c) = ltb c 0xd800
-
-abbrev all_low : List (List ℕ) → Bool
-all_low columns = every_from (λ b. low (upper_at columns b)) 0xa0 96
-
 table_written : (columns : List (List ℕ)) → all_low columns ≡ true → AllInUtf8 (single_byte columns)
-table_written columns ok [] c e = absurd (no_none e)
-table_written columns ok (a ∷ b ∷ s) c e = absurd (no_none e)
-table_written columns ok (b ∷ []) c e = go (ascii b) refl e
-  where
-    go : (t : Bool) → ascii b ≡ t → cond t (Some b) (upper_at columns b) ≡ Some c → InUtf8 c
-    go true h f = let same : b ≡ c = some_same f in low_written c (grind (arith, nat_tests))
-    go false h f =
-        let range = upper_byte columns b c f in
-        let here = every_at (λ x. low (upper_at columns x)) 0xa0 96 b ok range.0 range.1 in
-        low_written c (ltb-true c 0xd800 (rw f at here))
+table_written columns ok [] c e = cc
+table_written columns ok (a ∷ b ∷ s) c e = cc
+table_written columns ok (b ∷ []) c e = low_written c (low_at columns ok b c e)
 
 latin_low : all_low iso8859_16 ≡ true
 unfolding iso8859_16
@@ -99,7 +80,7 @@ form_written Basic = controls_written (sub required iso6937) (sub_laws required 
 ends_written : (m : Meaning) → AllInUtf8 m → (rest : List ℕ) (stop : Option Fault) → Ends m utf8 rest stop → AlwaysWritten stop
 ends_written m all rest stop h c e =
     let k : Ends m utf8 rest (Some (Unwritten c)) = subst (Ends m utf8 rest) e h in
-    no_none (sym k.2 ∙ (all (take k.0 rest) c k.1.1).1)
+    none-some _ (sym k.2 ∙ (all (take k.0 rest) c k.1.1).1)
 
 pub always_written : (f : Form) (bytes : List ℕ) (r : Result Transcription Failure) → IfOk r (λ p. TextOf (form_set f) bytes p) → IfOk r (λ p. AlwaysWritten (fault_in p.outcome))
 always_written f bytes (Ok p) h = ends_written (form_set f) (form_written f) (drop (offset_in bytes p.outcome) bytes) (fault_in p.outcome) h.transcript.transcribed.ends

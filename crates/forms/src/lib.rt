@@ -1,7 +1,7 @@
 // The text of a page, by its form.
 #![tactic(auto)]
 
-ghost use Rattle.std.specs.Prelude.{◌≡◌, ◌<◌, length, IfOk, Ok, Err};
+ghost use Rattle.std.specs.Prelude.{◌≡◌, ◌<◌, length, IfOk, Err};
 ghost use Rattle.charset.specs.Sets.{set_of};
 ghost use Rattle.layers.specs.Layers.{controls};
 ghost use Rattle.transcription.specs.Failures.{IsTooLongOrWanting};
