@@ -1,7 +1,7 @@
 -- What was written reads back, and the law of every transcript. Assumes nothing.
 use Rattle.std.proofs.Common.{◌≡◌, ℕ, ◌+◌, ◌≤◌, Bool, true, false, cond, ltb, List, [], ◌∷◌, ◌++◌, length, take, drop, Some, None, Ok, Err, sym, refl, ap, ◌∙◌, subst, inl, inr, append_assoc, append-nil, arith, length-append, take-append-drop, length-take}
-use lib.Seq.{take-append_seam, take-append-le}
-use Rattle.std.proofs.lemmas.Bool.{both_ways, cases_lt, ltb-true}
+use lib.Seq.{take-append_seam}
+use Rattle.std.proofs.lemmas.Bool.{both_ways, ltb-true}
 use Rattle.std.proofs.lemmas.List.{nil_from_length}
 use Rattle.std.proofs.lemmas.Option.{none-some}
 use Rattle.charset.specs.declared.SetRefusal.{SetRefusal}
@@ -10,6 +10,7 @@ use Rattle.charset.specs.Meaning.{Meaning, Laws}
 use Rattle.charset.specs.Answers.{Reads}
 use Rattle.charset.specs.Decoding.{Spells}
 use Rattle.charset.proofs.Spelling.{spells_append, spells_split, spells_one, fronts, same_coding}
+use Rattle.charset.proofs.FrontLemmas.{reads_on}
 use Rattle.conversion.specs.declared.Fault.TheVariants.{Unread, Unwritten, Unfinished}
 use Rattle.conversion.specs.declared.Pause.TheVariants as pause
 use Rattle.conversion.specs.Stops.{End, Stops}
@@ -40,17 +41,8 @@ module _ (S T : Meaning) (l : Laws S) where
       none-some q.0 (sym k ∙ rw same.1 q.2)
 
   no_bad : (es rest more : List ℕ) (q : SetRefusal) → Spells S es (rest ++ more) → Reads S rest (Err q) → ⊥
-  no_bad [] rest more q p h = let none : rest ≡ [] = nil_from_length rest (omega (arith, ap length p, length-append rest more)) in both_ways _ h.0.1 (rw none l.empty_opens)
-  no_bad (d ∷ es) rest more q p h =
-      let code = l.written d _ p.2 in
-      elim (cases_lt (length rest) (length p.0)) [
-        | inl g ↦
-            let start_of : take (length rest) p.0 ≡ rest = sym (take-append-le (length rest) p.0 p.1 (omega arith)) ∙ ap (take (length rest)) (sym p.3) ∙ take-append_seam rest more in
-            both_ways _ h.0.1 (rw start_of at (l.coding_begins p.0 d (length rest) code g))
-        | inr g ↦
-            let start_of : take (length p.0) rest ≡ p.0 = sym (take-append-le (length p.0) rest more g) ∙ ap (take (length p.0)) p.3 ∙ take-append_seam p.0 p.1 in
-            h.0.0 (length p.0) d (rw start_of code)
-      ]
+  no_bad [] rest more q p h = both_ways _ (reads_on l rest more (Err q) (λ e. cc) h).0.1 (rw p l.empty_opens)
+  no_bad (d ∷ es) rest more q p h = (reads_on l rest more (Err q) (λ e. cc) h).0.0 (length p.0) d (rw (p.3, take-append_seam p.0 p.1) (l.written d _ p.2))
 
   -- whole characters, all with codings in T too, lead to no fault
   harmless : (k : End) (es e rest more : List ℕ) (used room : ℕ) → Spells S es (rest ++ more) → Spells T es e → Stops S T rest used room k → Harmless k

@@ -1,8 +1,8 @@
 -- Numbers are refused on one ground only. Assumes nothing.
-use Rattle.std.proofs.Common.{◌≡◌, ℕ, ◌<◌, ◌≤◌, false, ◌⊎◌, List, length, sym, ◌∙◌, inl, inr, arith, true, None}
+use Rattle.std.proofs.Common.{◌≡◌, ℕ, ◌<◌, ◌≤◌, true, false, ◌⊎◌, List, length, None, sym, ◌∙◌, inl, inr, arith}
 use Rattle.std.proofs.lemmas.Bool.{cases_order, both_ways}
 use Rattle.charset.specs.Meaning.{Codings}
-use Rattle.layers.specs.CharacterList.{rises_at, on_list, Rising, Complete, required}
+use Rattle.layers.specs.CharacterList.{required, rises_at, on_list, Rising, Complete}
 use Rattle.layers.specs.Refusals.{Told}
 use Rattle.layers.specs.Filled.{FirstNotRising, FirstMissing, FirstUncoded, IsNotIncreasing, Lacking, WithoutCoding, Acceptable, Ground, OneAnswer}
 

@@ -1,7 +1,7 @@
 -- The required characters, by tests that antt computes. Assumes nothing.
 use Rattle.std.proofs.Common.{◌≡◌, true, length, refl, arith}
 use Rattle.std.proofs.lemmas.Bool.{agree_below_at}
-use Rattle.layers.specs.CharacterList.{required, Rising, Sound, rises_at}
+use Rattle.layers.specs.CharacterList.{required, rises_at, Rising, Sound}
 
 pub required_length : length required ≡ 74
 unfolding required

@@ -11,9 +11,9 @@ use Rattle.layers.specs.declared.recoding.moves.Move.{Move}
 use Rattle.layers.specs.declared.recoding.moves.Move.TheVariants.{Emit, Hold}
 use Rattle.layers.specs.declared.recoding.moves.Form.{Form}
 use Rattle.layers.specs.declared.recoding.moves.Form.TheVariants.{One, Two}
-use Rattle.layers.specs.Depth.{up, over}
+use Rattle.layers.specs.Depth.{over}
 use Rattle.layers.specs.Recoding.{End, clean, pending, broken, Recoding, put, stop, below, ends, before, shifted, is_clean, is_broken, at_most_four, shift_of, scan_cause, recoded, Agrees}
-use Rattle.charset.proofs.FrontLemmas.{reading_reads, reading_bad, bad_grows, alone}
+use Rattle.charset.proofs.FrontLemmas.{reading_reads, reading_is, reading_bad, answer_grows, alone}
 
 pub over_small : {m : Meaning} → Laws m → (t : List ℕ) (q : SetRefusal) → q.cause < 256 → q.depth < 256
     → ((over (reading m t) q).cause < 256) × ((over (reading m t) q).depth < 256)
@@ -227,9 +227,9 @@ module _ (r : Recoding) (m : Meaning) where
             let short : length (take n s) ≤ 3 = rw (length-take n s) (omega arith) in
             let no_open : m.openings (below r false (take n s)) ≡ false = rw (le-leb _ 3 short, e) at bad.1 in
             let worse : Unreadable m (below r false (take n s)) = (no_front (take n s) (omega arith) bad.0, no_open) in
-            let worse' : Unreadable m (take (length (below r false (take n s))) (below r false s)) = rw (← below_take r s false n) worse in
-            let same = l.cause_stays (below r false s) _ worse' ∙ ap m.causes (sym (below_take r s false n)) in
-            rw (reading_bad l (below r false (take n s)) worse, reading_bad l (below r false s) (bad_grows l (below r false s) (length (below r false (take n s))) worse')) (ap up same)
+            let q = m.causes (below r false (take n s)) in
+            let g = answer_grows l (below r false s) (length (below r false (take n s))) (Err q) (λ z. cc) (rw (← below_take r s false n) (worse, refl)) in
+            rw (reading_bad l (below r false (take n s)) worse, reading_is l (below r false s) (Err q) g)
 
         go : (e : End) → ends r false (take n s) ≡ e → scan_cause r m s ≡ scan_cause r m (take n s)
         go clean k = better (rw k)

@@ -3,9 +3,9 @@ use Rattle.std.specs.Prelude.{◌≡◌, ℕ, ◌<◌, Bool, true, ◌&&◌, Lis
 use Rattle.std.proofs.Common.{ap, ◌∙◌}
 use Rattle.std.proofs.Math.Path.{subst₃}
 use Rattle.std.specs.Option.{option_map, is_none}
-use Rattle.charset.proofs.FrontLemmas.{no_value}
 use Rattle.std.proofs.lemmas.Bool.{and_parts, ltb-true}
 use Rattle.std.proofs.lemmas.Option.{same_Some}
+use Rattle.charset.proofs.FrontLemmas.{no_value}
 use Rattle.sets.specs.Search.{when, first_from}
 use Rattle.sets.specs.Columns.{is_character, one_to_one}
 use Rattle.sets.specs.Iso6937Table.{supplementary, diacritics}
