@@ -40,6 +40,16 @@ module _ (S T : Meaning) (l : Laws S) where
     fits = rw (length-append target v) fits;
   }
 
+  -- characters that fit and then some more
+  pub leads_on : (input cs source target rest ds source' target' rest' : List ℕ) (room room' : ℕ) → Leads S T input room cs source target rest → Leads S T rest room' ds source' target' rest'
+      → length target + room' ≤ room → Leads S T input room (cs ++ ds) (source ++ source') (target ++ target') rest'
+  leads_on input cs source target rest ds source' target' rest' room room' h k less = record {
+    from = spells_append S cs ds source source' h.from k.from;
+    into = spells_append T cs ds target target' h.into k.into;
+    begins = h.begins ∙ ap (λ t. source ++ t) k.begins ∙ sym (append_assoc source source' rest');
+    fits = rw (length-append target target') (omega (arith, k.fits));
+  }
+
   stops_next : (rest : List ℕ) (used room : ℕ) (k : End) → Stops S T rest used room k → next T (reading S rest) used room ≡ halts k
   stops_next rest used room (Ok Open) h = rw (reading_is l rest (Ok reading.Open) h)
   stops_next rest used room (Ok Full) h = rw (reading_is l rest (Ok (reading.Found h.0 h.1)) h.3, h.4, lt-ltb _ _ h.5)

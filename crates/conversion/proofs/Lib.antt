@@ -2,3 +2,4 @@ pub mod Windows
 pub mod Leading
 pub mod Turns
 pub mod Once
+pub mod PlainBytes

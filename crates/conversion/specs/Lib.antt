@@ -2,4 +2,5 @@ pub mod Stops
 pub mod Next
 pub mod Steps
 pub mod Runs
+pub mod Plain
 pub mod Transcribed

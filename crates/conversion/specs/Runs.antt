@@ -1,8 +1,8 @@
 -- Characters from one set into another, one after the other. Assumes nothing.
-use Rattle.std.specs.Prelude.{◌≡◌, ℕ, List, ◌++◌, length, drop}
+use Rattle.std.specs.Prelude.{◌≡◌, ℕ, ◌≤◌, List, ◌++◌, length, take, drop}
 use Rattle.charset.specs.Meaning.{Meaning}
 use Rattle.conversion.specs.declared.Run.{Run}
-use Rattle.conversion.specs.Stops.{Reaches}
+use Rattle.conversion.specs.Stops.{Leads, Reaches}
 
 -- characters that fit lead to the run's end; they stand in front of the output, whose rest is as it was; and the run counts them
 pub record Runs (S T : Meaning) (input out out' : List ℕ) (r : Run) : Type 0 where
@@ -14,3 +14,14 @@ pub record Runs (S T : Meaning) (input out out' : List ℕ) (r : Run) : Type 0 w
   pub characters : r.characters ≡ length chars
   pub read : r.read ≡ length source
   pub written : r.written ≡ length target
+
+-- so many characters that fit were read up to a place in the input and written up to a place in the output, whose rest is as it was
+pub record Far (S T : Meaning) (input out out' : List ℕ) (count at put : ℕ) : Type 0 where
+  pub chars : List ℕ
+  pub counted : count ≡ length chars
+  pub few : count ≤ at
+  pub inside : at ≤ length input
+  pub room : put ≤ length out
+  pub leads : Leads S T input (length out) chars (take at input) (take put out') (drop at input)
+  pub rest : drop put out' ≡ drop put out
+  pub size : length out' ≡ length out

@@ -1,15 +1,16 @@
-// Characters from one set into another: one at a time, and one after the other until something ends it.
+// Characters from one set into another.
 #![tactic(auto)]
 
-ghost use Rattle.std.specs.Prelude.{◌≡◌, ◌≤◌, ◌++◌, length, drop};
+ghost use Rattle.std.specs.Prelude.{◌≡◌};
 ghost use Rattle.charset.specs.Sets.{set_of};
 ghost use Rattle.conversion.specs.declared.Fault.TheVariants.{Unread};
 ghost use Rattle.conversion.specs.Next.{ComesNext};
 ghost use Rattle.conversion.specs.Steps.{Steps};
-ghost use Rattle.conversion.specs.Runs.{Runs};
 
-pub use charset::Front;
+mod converter;
+
 use charset::{CharacterSet, Coding, Reading, SetRefusal};
+pub use converter::Converter;
 
 // Why a transcript cannot go on.
 #[derive(Clone, Copy, PartialEq, Eq, Debug)]
@@ -95,65 +96,4 @@ pub fn convert_one<S: CharacterSet, T: CharacterSet>(
         read: length,
         written,
     })
-}
-
-// The character that stands `at` bytes behind the start of the held bytes and then the sector, which stay two parameters: a transcript holds the
-// one and is lent the other. A character that begins among the held bytes is read from a copy of the four bytes there, which decide it.
-fn convert_at<S: CharacterSet, T: CharacterSet>(
-    source: &S,
-    target: &T,
-    held: Front,
-    sector: &[u8],
-    at: usize,
-    output: &mut [u8],
-) -> Result<Step, Fault>
-    requires { at ≤ length (held ++ sector.now) }
-    ensures { Steps (set_of S.CharacterSet source.now) (set_of T.CharacterSet target.now) (drop at (held ++ sector.now)) output.old output.new result }
-{
-    let bytes = held.as_bytes();
-    if at < bytes.len() {
-        let window = held.window(sector, at);
-        convert_one(source, target, window.as_bytes(), output)
-    } else {
-        convert_one(source, target, &sector[at - bytes.len()..], output)
-    }
-}
-
-// The held bytes and then the sector, character after character, into the output, until something ends it. A loop, since what is read and written
-// decides where the next character is read and written.
-pub fn convert<S: CharacterSet, T: CharacterSet>(
-    source: &S,
-    target: &T,
-    held: Front,
-    sector: &[u8],
-    output: &mut [u8],
-) -> Run
-    ensures { Runs (set_of S.CharacterSet source.now) (set_of T.CharacterSet target.now) (held ++ sector.now) output.old output.new result }
-{
-    prove!(held.len() <= 4);
-    let mut characters = 0;
-    let mut read = 0;
-    let mut written = 0;
-    let end = 'run: loop {
-        match convert_at(source, target, held, sector, read, &mut output[written..]) {
-            Ok(
-                Step::Written {
-                    read: more,
-                    written: put,
-                },
-            ) => {
-                characters += 1;
-                read += more;
-                written += put;
-            }
-            Ok(Step::Paused(pause)) => break Ok(pause),
-            Err(fault) => break Err(fault),
-        }
-    };
-    Run {
-        characters,
-        read,
-        written,
-        end,
-    }
 }

@@ -3,7 +3,8 @@ ghost use Rattle.std.specs.Prelude.{◌+◌, ◌*◌, ◌≤◌, length};
 
 use crate::{LONGEST_OUTPUT, LONGEST_SECTOR, LONGEST_SOURCE};
 use answers::{Done, FaultAt, Refusal, State, Status};
-use conversion::{Fault, Front, Pause, Run};
+use charset::Front;
+use conversion::{Fault, Pause, Run};
 
 #[derive(Clone, Copy)]
 pub struct Progress {

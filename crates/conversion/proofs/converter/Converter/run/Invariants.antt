@@ -1,12 +1,12 @@
 use Rattle.std.proofs.Common.{◌-◌, ◌++◌, length}
 use Rattle.charset.specs.Sets.{set_of}
-use Rattle.conversion.proofs.Turns.{Far}
-use Rattle.conversion.proofs.convert.Given as goal
+use Rattle.conversion.specs.Runs.{Far}
+use Rattle.conversion.proofs.converter.Converter.run.Given as goal
 
 abbrev pub invariant-run : goal.invariant-run
 invariant-run g l =
-    Far (set_of g.S.CharacterSet l.source)
-    (set_of g.T.CharacterSet l.target)
+    Far (set_of g.S.CharacterSet l.fn.self.source)
+    (set_of g.T.CharacterSet l.fn.self.target)
     (l.held ++ l.sector) l.initial.output l.output l.characters l.read l.written
 
 abbrev pub decreases-run : goal.decreases-run
