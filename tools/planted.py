@@ -1,0 +1,213 @@
+#!/usr/bin/env python3
+"""Plants bugs in the code, one at a time, and lists those that the proofs let through.
+
+    tools/planted.py make NAME..   writes tools/planted/NAME.txt: for each function some wrong edits of its body
+    tools/planted.py run [NAME..]  tries each edit of these lists (all lists, if no name is given) on a copy of the repository
+
+A list is made once, may be added to by hand, and is kept. An edit is a block of lines: `plant:` with a name and the function, `file:`, and then
+pairs of `old:` and `new:`, one line each, where the old text stands in the file exactly once. An edit ends as refused (a fact no longer
+holds), bad (it does not compile, so it says nothing), or survivor. A survivor in a program is also run: it counts as told where the
+program prints another output. A line `known:` in a block says why the edit survives: it means the same, or it touches what no contract can say.
+The status is 0 where no other edit survives.
+"""
+import pathlib
+import re
+import shutil
+import subprocess
+import sys
+import tempfile
+
+TOP = pathlib.Path(__file__).resolve().parent.parent
+LISTS = TOP / "tools/planted"
+EACH = 5
+CODE = r"^\s*(//|#\[|use |pub use |mod |pub mod |ghost |ensures|requires|\}|\{|else \{?$)"
+HEAD = re.compile(r"^(\s*)(?:pub(?:\(crate\))? )?(?:const )?fn (\w+)")
+
+
+def functions(lines):
+    """The functions of a file: name, lines of the head, lines of the body. Functions of tests are left out."""
+    at = 0
+    tests = False
+    while at < len(lines):
+        head = HEAD.match(lines[at])
+        tests = tests or lines[at].strip() == "#[test]"
+        if not head:
+            at += 1
+            continue
+        indent, name = head.groups()
+        body = at
+        while not (lines[body] == indent + "{" or lines[body].endswith(" {") or lines[body].rstrip().endswith(";")):
+            body += 1
+        end = body
+        if not lines[body].rstrip().endswith(";"):
+            while lines[end] != indent + "}":
+                end += 1
+            if not tests:
+                yield name, range(at, body), range(body + 1, end)
+        tests = False
+        at = end + 1
+
+
+def number(match):
+    """The next number, written alike."""
+    word = match.group()
+    value = int(word.replace("_", ""), 0) + 1
+    return f"0x{value:X}" if word.startswith("0x") else str(value)
+
+
+SWAPS = [
+    ("compare", r" < ", " <= "), ("compare", r" <= ", " < "), ("compare", r" > ", " >= "), ("compare", r" >= ", " > "),
+    ("compare", r" == ", " != "), ("compare", r" != ", " == "),
+    ("operator", r" \+ ", " - "), ("operator", r" - ", " + "), ("operator", r" \* ", " + "), ("operator", r" / ", " * "),
+    ("operator", r" << ", " >> "), ("operator", r" >> ", " << "), ("operator", r" & ", " | "), ("operator", r" \+= ", " = "),
+    ("logic", r" && ", " || "), ("logic", r" \|\| ", " && "), ("logic", r"if !", "if "), ("logic", r"if (?!let)", "if !"),
+    ("logic", r"\btrue\b", "false"), ("logic", r"\bfalse\b", "true"),
+    ("range", r"\.\.=", ".."), ("range", r"\[(\w+)\.\.\]", "[0..]"), ("range", r"\[\.\.(\w+)\]", "[..0]"),
+    ("constant", r"(?<![\w.\"'\\])(0x[0-9A-Fa-f_]+|\d[\d_]*)(?![\w\"'])", number),
+    ("call", r"\.is_some\(\)", ".is_none()"), ("call", r"\.is_none\(\)", ".is_some()"), ("call", r"\.any\(", ".all("),
+    ("call", r"\.all\(", ".any("), ("call", r"saturating_sub", "saturating_add"), ("call", r"\.min\(", ".max("),
+    ("call", r"\.skip\(", ".take("), ("call", r"\.take\(", ".skip("),
+    ("case", r"=> Some\(.*\),$", "=> None,"), ("case", r"^(\s*)Some\(.*\)$", r"\1None"), ("case", r"=> Ok\(Some\(.*\)\),$", "=> Ok(None),"),
+    ("swap", r"\b(\w+)\((\w+), (\w+)\)", r"\1(\3, \2)"), ("swap", r"\(&?(\w+), &?(\w+), ", r"(\2, \1, "),
+    ("write", r"^(\s*)[\w.]+(\[.*\])? [+|&-]?= .*;$", r"\1;"), ("write", r"^(\s*)[\w.]+\.(push|extend_from_slice|copy_from_slice)\(.*;$", r"\1;"),
+]
+
+
+EARLY = [
+    (r"-> Option<", "return None;"), (r"-> bool", "return true;"), (r"-> bool", "return false;"), (r"-> (u8|u32|u64|usize)\b", "return 0;"),
+    (r"-> Result<Reading, SetRefusal>", "return Ok(Reading::Open);"), (r"-> Result<Option<", "return Ok(None);"), (r"-> Result<\(\)", "return Ok(());"),
+]
+
+
+def edits(lines, head, body, whole):
+    """The edits of a body: kind, old line, new line."""
+    code = [lines[at] for at in body if not re.match(CODE, lines[at])]
+    words = "\n".join(code)
+    names = set(re.findall(r"(?<![.\w:])[a-z_]\w*\b(?![(!:])", words)) - set("let if else match for in return self mut heap break as move loop while continue true false".split())
+    fields = set(re.findall(r"\bself\.(\w+)\b(?!\()", words))
+    signature = " ".join(lines[head.start:body.start])
+    signature = signature[: signature.find(" ensures ")] if " ensures " in signature else signature
+    for old in code:
+        if whole.count(old.strip()) != 1:
+            continue
+        for kind, pattern, new in SWAPS:
+            for found in re.finditer(pattern, old):
+                yield kind, old, old[: found.start()] + (found.expand(new) if isinstance(new, str) else new(found)) + old[found.end():]
+        for found in re.finditer(r"(?<=\bself\.)\w+\b(?!\()", old):
+            for name in sorted(fields - {found.group()}):
+                yield "operand", old, old[: found.start()] + name + old[found.end():]
+        for found in re.finditer(r"(?<![.\w:\"'])[a-z_]\w*\b(?![(!:])", old):
+            for name in sorted(names - {found.group()}):
+                if found.group() in names and not re.search(rf"let (mut )?\(?[\w, ]*\b{found.group()}\b.*=.*", old[: found.end() + 3]):
+                    yield "operand", old, old[: found.start()] + name + old[found.end():]
+    for old in code[:1]:
+        for pattern, new in EARLY:
+            if whole.count(old.strip()) == 1 and re.search(pattern, signature):
+                yield "early", old, f"{new} {old.strip()}"
+
+
+def chosen(found):
+    """Some edits, of as many kinds and lines as there are."""
+    out, seen = [], set()
+    rest = [it for number, it in enumerate(found) if it not in found[:number]]
+    while rest and len(out) < EACH:
+        # An operand is the last choice, since most do not fit in their type.
+        best = min(rest, key=lambda it: (sum(it[0] == one[0] for one in out) + 2 * (it[0] == "operand"), sum(it[1] == one[1] for one in out)))
+        rest.remove(best)
+        if best[2] not in seen:
+            seen.add(best[2])
+            out.append(best)
+    return out
+
+
+def make(name):
+    blocks = []
+    for file in sorted((TOP / "crates" / name / "src").rglob("*.rt")):
+        whole = file.read_text()
+        lines = whole.split("\n")
+        for function, head, body in functions(lines):
+            for count, (kind, old, new) in enumerate(chosen(list(edits(lines, head, body, whole))), 1):
+                blocks.append(f"plant: {function}_{kind}_{count}\nfile: {file.relative_to(TOP / 'crates' / name)}\nold: {old.strip()}\nnew: {new.strip()}\n")
+    LISTS.mkdir(exist_ok=True)
+    (LISTS / f"{name}.txt").write_text("\n".join(blocks))
+    print(f"{name}: {len(blocks)} edits")
+
+
+def listed(name):
+    """The edits of a list: name, text, and the whole block."""
+    for block in filter(None, (LISTS / f"{name}.txt").read_text().strip("\n").split("\n\n")):
+        lines = block.split("\n")
+        yield lines[0][7:], "\n".join(line for line in lines[1:] if not line.startswith("known: ")), block
+
+
+def tried(top, name, plants):
+    """What comes of each edit, in a copy of the repository: refused, bad or survivor, with the first error."""
+    folder = top / "crates" / name / "must-fail"
+    shutil.rmtree(folder, ignore_errors=True)
+    folder.mkdir()
+    for count, (_, text, _) in enumerate(plants):
+        (folder / f"{count:03}.edit").write_text(text + "\n")
+    ran = subprocess.run(["rt", "must-fail", name], cwd=top, stdout=subprocess.PIPE, stderr=subprocess.STDOUT, text=True, errors="replace", check=False)
+    for count, (plant, _, _) in enumerate(plants):
+        line = next((it for it in ran.stdout.split("\n") if f"{name}/{count:03}.edit: " in it), f"{count:03}.edit: NOT TRIED")
+        told = line.split(".edit: ")[1]
+        kind = {"refused": "refused", "BAD": "bad", "NOT REFUSED": "survivor"}
+        yield plant, next((to for word, to in kind.items() if told.startswith(word)), "not tried"), told
+    shutil.rmtree(folder)
+
+
+def told_by_run(top, name, text):
+    """Whether a program with an edit prints another output."""
+    crate = top / "crates" / name
+    if not (crate / "stdout").exists():
+        return False
+    pairs = re.findall(r"^old: (.*)\nnew: (.*)$", text, re.M)
+    file = crate / re.match(r"file: (.*)", text).group(1)
+    was = file.read_text()
+    try:
+        for old, new in pairs:
+            file.write_text(file.read_text().replace(old, new, 1))
+        words = (crate / "args").read_text().split() if (crate / "args").exists() else []
+        subprocess.run(["rt", "run"], cwd=crate, stdin=subprocess.DEVNULL, stdout=subprocess.DEVNULL, stderr=subprocess.DEVNULL, check=False)
+        source = (crate / "stdin").read_bytes() if (crate / "stdin").exists() else b""
+        data = crate / "data" if (crate / "data").exists() else crate
+        ran = subprocess.run([crate / "out" / name, *words], cwd=data, input=source, stdout=subprocess.PIPE, stderr=subprocess.DEVNULL, check=False)
+        return ran.stdout != (crate / "stdout").read_bytes()
+    finally:
+        file.write_text(was)
+
+
+def run(names):
+    alive = 0
+    with tempfile.TemporaryDirectory(prefix="planted-") as room:
+        top = pathlib.Path(room) / "top"
+        shutil.copytree(TOP, top, ignore=shutil.ignore_patterns(".git", "target"), symlinks=True)
+        for name in names:
+            plants = list(listed(name))
+            found = list(tried(top, name, plants))
+            log = TOP / "target" / f"planted-{name}.log"
+            log.parent.mkdir(exist_ok=True)
+            log.write_text("".join(f"{plant}: {told}\n" for plant, _, told in found))
+            for (plant, text, block), (_, kind, told) in zip(plants, found):
+                known = re.search(r"^known: .*", block, re.M)
+                if kind == "survivor" and not known and told_by_run(top, name, text):
+                    kind = "told by its run"
+                elif kind == "survivor" and not known:
+                    alive += 1
+                    print(f"SURVIVOR {name}/{plant}\n{text}")
+                elif kind in ("bad", "not tried"):
+                    print(f"{kind}: {name}/{plant}: {told[:120]}")
+            kinds = [kind for _, kind, _ in found]
+            print(f"{name}: {len(kinds)} edits, " + ", ".join(f"{kinds.count(kind)} {kind}" for kind in sorted(set(kinds))), flush=True)
+    return alive
+
+
+if __name__ == "__main__":
+    command, *given = sys.argv[1:] or [""]
+    if command == "make" and given:
+        for each in given:
+            make(each)
+    elif command == "run":
+        sys.exit(1 if run(given or sorted(it.stem for it in LISTS.glob("*.txt"))) else 0)
+    else:
+        sys.exit(__doc__)
