@@ -1,3 +1,2 @@
 pub mod Shown
-pub mod Texts
 pub mod Written

@@ -24,7 +24,7 @@ use Rattle.transcription.specs.declared.Transcription.{Transcription}
 use Rattle.transcription.specs.Carried.{fault_in, offset_in}
 use Rattle.pages.specs.declared.page.Form.{Form}
 use Rattle.pages.specs.declared.page.Form.TheVariants.{EightBit, SevenBit, SevenBitParity, Latin10, Sami, Unicode, Basic}
-use Rattle.forms.specs.Forms.{form_set}
+use Rattle.form_sets.specs.Forms.{form_set}
 use Rattle.page_stacks.specs.PageControls.{page_controls}
 use Rattle.forms.specs.Texts.{TextOf, AlwaysWritten}
 

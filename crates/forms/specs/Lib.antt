@@ -1,3 +1,3 @@
+pub use Rattle.form_sets.specs.Forms
 pub mod Examples
-pub mod Forms
 pub mod Texts

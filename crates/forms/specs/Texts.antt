@@ -13,7 +13,7 @@ use Rattle.pages.specs.declared.page.Form.{Form}
 use Rattle.pages.specs.declared.page.Page.{Page}
 use Rattle.pages.specs.declared.page.Page.TheVariants.{Text, Picture}
 use Rattle.forms.specs.declared.PageText.{PageText}
-use Rattle.forms.specs.Forms.{form_set}
+use Rattle.form_sets.specs.Forms.{form_set}
 
 -- the bytes in that set, in UTF-8: the characters up to the end or a fault, by a use of a transcript
 pub record TextIn (m : Meaning) (bytes text : List ℕ) (characters : ℕ) (o : Outcome) : Type 0 where

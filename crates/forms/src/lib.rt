@@ -1,36 +1,19 @@
 // The text of a page, by its form.
 #![tactic(auto)]
 
-ghost use Rattle.std.specs.Prelude.{◌≡◌, ◌<◌, length, IfOk, Err};
-ghost use Rattle.charset.specs.Sets.{set_of};
-ghost use Rattle.layers.specs.Layers.{controls};
+ghost use Rattle.std.specs.Prelude.{◌≡◌, IfOk};
 ghost use Rattle.transcription.specs.Failures.{IsTooLongOrWanting};
 ghost use Rattle.transcription.specs.Carried.{fault_in};
 ghost use Rattle.forms.specs.Examples.{WorkedExamples};
-ghost use Rattle.forms.specs.Forms.{form_set};
-ghost use Rattle.page_stacks.specs.PageControls.{page_controls};
+ghost use Rattle.form_sets.specs.Forms.{form_set};
 ghost use Rattle.forms.specs.Texts.{TextOf, AlwaysWritten, on_page, page_form, IsEmptyText, IsPageText};
 
 use answers::FaultAt;
-use charset::CharacterSet;
-use layers::{CharacterList, with_controls, with_list, with_parity, with_shift};
-use page_stacks::PAGE_CONTROLS;
+use form_sets::FormSet;
 use pages::{Form, Page, RollFault};
-use sets::{Iso6937, SingleByte, Utf8};
+use sets::Utf8;
 use std::alloc::{AllocError, Global};
 use transcription::{Failure, Transcription, transcribe};
-
-// Bytes in a set with the controls of a page, in UTF-8.
-fn with_page_controls<S: CharacterSet + Drop>(
-    heap: Global,
-    below: S,
-    bytes: &[u8],
-) -> Result<Transcription, Failure>
-    ensures text { IfOk result (λ p. TextOf (controls page_controls (set_of S.CharacterSet below)) bytes.now p) }
-    ensures too_long { IsTooLongOrWanting bytes.now result }
-{
-    transcribe(heap, with_controls(PAGE_CONTROLS, below), Utf8, bytes)
-}
 
 // Bytes of a form, in UTF-8.
 #[tactic(auto, using(crate::proofs::Shown::worked_examples))]
@@ -40,22 +23,8 @@ pub fn form_text(heap: Global, form: Form, bytes: &[u8]) -> Result<Transcription
     ensures always_written { IfOk result (λ p. AlwaysWritten (fault_in p.outcome)) }
     ensures worked_examples { WorkedExamples }
 {
-    // Each form has a stack of another type, which neither a closure nor one generic call can choose.
-    match form {
-        Form::EightBit => with_page_controls(heap, Iso6937, bytes),
-        Form::SevenBit => with_page_controls(heap, with_shift(Iso6937), bytes),
-        Form::SevenBitParity => {
-            let stack = with_parity(with_controls(PAGE_CONTROLS, with_shift(Iso6937)));
-            transcribe(heap, stack, Utf8, bytes)
-        }
-        Form::Latin10 => with_page_controls(heap, SingleByte::iso8859_16(), bytes),
-        Form::Sami => with_page_controls(heap, SingleByte::sami(), bytes),
-        Form::Unicode => transcribe(heap, Utf8, Utf8, bytes),
-        Form::Basic => {
-            let list = CharacterList::new(heap)?;
-            with_page_controls(heap, with_list(list, Iso6937), bytes)
-        }
-    }
+    let set = FormSet::of(heap, form)?;
+    transcribe(heap, set, Utf8, bytes)
 }
 
 // The text of a page up to its end or a fault, its form, which a picture has not, and how many characters it has.

@@ -1,0 +1,90 @@
+// The character set of a form of text, chosen while the program runs.
+#![tactic(auto)]
+
+ghost use Rattle.std.specs.Prelude.{◌≡◌, IfOk};
+ghost use Rattle.charset.specs.Meaning.{Laws};
+ghost use Rattle.form_sets.specs.Forms.{form_set};
+ghost use Rattle.form_sets.specs.Chosen.{meaning_of};
+ghost use Rattle.form_sets.specs.ChosenLaws.{chosen_laws};
+
+use charset::{CharacterSet, Coding, Reading, SetRefusal};
+use layers::{
+    CharacterList, Controls, Parity, Shift, Subrepertoire, with_controls, with_list, with_parity,
+    with_shift,
+};
+use page_stacks::PAGE_CONTROLS;
+use pages::Form;
+use sets::{Iso6937, SingleByte, Utf8};
+use std::alloc::{AllocError, Global};
+
+// One case for each form, since each has a stack of another type.
+#[derive(Drop)]
+pub enum FormSet {
+    EightBit(Controls<Iso6937>),
+    SevenBit(Controls<Shift<Iso6937>>),
+    SevenBitParity(Parity<Controls<Shift<Iso6937>>>),
+    SingleByte(Controls<SingleByte>),
+    Unicode(Utf8),
+    Basic(Controls<Subrepertoire<Iso6937>>),
+}
+
+impl CharacterSet for FormSet {
+    ghost codings = { λ s. (meaning_of s).codings };
+
+    ghost openings = { λ s. (meaning_of s).openings };
+
+    ghost causes = { λ s. (meaning_of s).causes };
+
+    ghost lawful = { chosen_laws };
+
+    fn read(&self, bytes: &[u8]) -> Result<Reading, SetRefusal> {
+        match self {
+            FormSet::EightBit(set) => set.read(bytes),
+            FormSet::SevenBit(set) => set.read(bytes),
+            FormSet::SevenBitParity(set) => set.read(bytes),
+            FormSet::SingleByte(set) => set.read(bytes),
+            FormSet::Unicode(set) => set.read(bytes),
+            FormSet::Basic(set) => set.read(bytes),
+        }
+    }
+
+    fn write(&self, number: u32) -> Option<Coding> {
+        match self {
+            FormSet::EightBit(set) => set.write(number),
+            FormSet::SevenBit(set) => set.write(number),
+            FormSet::SevenBitParity(set) => set.write(number),
+            FormSet::SingleByte(set) => set.write(number),
+            FormSet::Unicode(set) => set.write(number),
+            FormSet::Basic(set) => set.write(number),
+        }
+    }
+}
+
+impl FormSet {
+    // The set of a form.
+    pub fn of(heap: Global, form: Form) -> Result<FormSet, AllocError>
+        ensures { IfOk result (λ s. meaning_of s ≡ form_set form) }
+    {
+        match form {
+            Form::EightBit => Ok(FormSet::EightBit(with_controls(PAGE_CONTROLS, Iso6937))),
+            Form::SevenBit => Ok(FormSet::SevenBit(with_controls(
+                PAGE_CONTROLS,
+                with_shift(Iso6937),
+            ))),
+            Form::SevenBitParity => {
+                let seven_bit = with_controls(PAGE_CONTROLS, with_shift(Iso6937));
+                Ok(FormSet::SevenBitParity(with_parity(seven_bit)))
+            }
+            Form::Latin10 => Ok(FormSet::SingleByte(with_controls(
+                PAGE_CONTROLS,
+                SingleByte::iso8859_16(),
+            ))),
+            Form::Sami => Ok(FormSet::SingleByte(with_controls(PAGE_CONTROLS, SingleByte::sami()))),
+            Form::Unicode => Ok(FormSet::Unicode(Utf8)),
+            Form::Basic => {
+                let basic = with_list(CharacterList::new(heap)?, Iso6937);
+                Ok(FormSet::Basic(with_controls(PAGE_CONTROLS, basic)))
+            }
+        }
+    }
+}
