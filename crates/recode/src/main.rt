@@ -1,7 +1,10 @@
 // From one form of text into another, from standard input to standard output: `recode SOURCE TARGET`.
 #![tactic(auto)]
 
-use anyhow::{Context, bail};
+use answers::{FaultAt, Told};
+use anyhow::{Context, anyhow, bail};
+use charset::SetRefusal;
+use conversion::Fault;
 use form_sets::FormSet;
 use pages::Form;
 use std::env;
@@ -18,6 +21,26 @@ fn set_by_number(rt: &HostRuntime, word: &str) -> anyhow::Result<FormSet> {
     Ok(FormSet::of(rt.alloc(), form)?)
 }
 
+// What is said of a fault.
+fn refused(at: FaultAt) -> anyhow::Error {
+    let Told { number, offset, .. } = Told::from(at);
+    match at.fault {
+        Fault::Unread(SetRefusal { cause, depth }) => {
+            anyhow!("refused {number} at offset {offset}: cause {cause}, depth {depth}")
+        }
+        Fault::Unwritten(character) => {
+            anyhow!(
+                "refused {number} at offset {offset}: U+{character:04X} has no coding in the target"
+            )
+        }
+        Fault::Unfinished => {
+            anyhow!(
+                "refused {number} at offset {offset}: the text ends in the middle of a character"
+            )
+        }
+    }
+}
+
 fn main(rt: HostRuntime) -> anyhow::Result<()> {
     let heap = rt.alloc();
     let words: Vec<String> = env::args(&rt)?.skip(1).collect(heap)?;
@@ -30,15 +53,6 @@ fn main(rt: HostRuntime) -> anyhow::Result<()> {
     rt.stdin().read_to_end(&mut input)?;
     let done = transcribe(heap, source, target, &input)?;
     rt.stdout().write_all(&done.text)?;
-    if let Err(fault) = done.outcome {
-        let told = answers::Told::from(fault);
-        bail!(
-            "refused {} at offset {} (cause {}, character {})",
-            told.number,
-            told.offset,
-            told.cause,
-            told.character
-        );
-    }
+    done.outcome.map_err(refused)?;
     Ok(())
 }
