@@ -1,4 +1,4 @@
-.PHONY: run test
+.PHONY: run test bench
 
 # Proves and builds the programs, then transcribes the sample roll.
 run:
@@ -15,3 +15,7 @@ test:
 	@tools/repertoire.py --check
 	@tools/vectors.py --check
 	@tools/gate
+
+# Holds recode against the system's iconv. No part of the test.
+bench: run
+	@bench/bench.py

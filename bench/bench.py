@@ -1,0 +1,121 @@
+#!/usr/bin/env python3
+"""Holds recode against the system's iconv on the same texts, and prints docs/PERFORMANCE.md: instructions per byte by callgrind, megabytes per
+second as the median of several runs, growth with the size, and peak memory. It stops where the two do not write the same bytes.
+
+    make bench                        builds recode, and prints
+    bench/bench.py > docs/PERFORMANCE.md
+"""
+import os
+import pathlib
+import platform
+import random
+import re
+import statistics
+import subprocess
+import sys
+import tempfile
+import time
+
+RECODE = pathlib.Path(__file__).resolve().parent.parent / "target/bin/recode"
+MIB = 1 << 20
+RUNS = 9
+
+
+def text(size, accent):
+    """Letters and spaces, about one letter in eight with the accent before it."""
+    out = bytearray()
+    while len(out) < size - 3:
+        if accent and random.random() < 0.125:
+            out += accent + bytes([random.choice(b"aeiou")])
+        else:
+            out.append(random.choice(b"abcdefghijklmnopqrstuvwxyz "))
+    return bytes(out)
+
+
+def run(words, source):
+    return subprocess.run(words, input=source, stdout=subprocess.PIPE, check=True).stdout
+
+
+def instructions(words, source):
+    with tempfile.NamedTemporaryFile() as out:
+        ran = subprocess.run(["valgrind", "--tool=callgrind", f"--callgrind-out-file={out.name}", *words], input=source, capture_output=True, check=True)
+    return int(re.search(rb"I\s+refs:\s+([\d,]+)", ran.stderr).group(1).replace(b",", b""))
+
+
+def per_byte(words, source):
+    """Instructions per byte, without what an empty text takes."""
+    return (instructions(words, source) - instructions(words, b"")) / len(source)
+
+
+def speed(words, file, size):
+    """Megabytes per second, from file to nowhere, the median of the runs."""
+    times = []
+    for _ in range(RUNS):
+        with open(file, "rb") as source:
+            start = time.perf_counter()
+            subprocess.run(words, stdin=source, stdout=subprocess.DEVNULL, check=True)
+            times.append(time.perf_counter() - start)
+    return size / statistics.median(times) / 1e6
+
+
+def peak(words, file):
+    """Peak memory in KiB, by GNU time: what this script itself takes must not count."""
+    with open(file, "rb") as source:
+        ran = subprocess.run(["/usr/bin/time", "-f", "%M", *words], stdin=source, stdout=subprocess.DEVNULL, stderr=subprocess.PIPE, check=True)
+    return int(ran.stderr.split()[-1])
+
+
+def machine():
+    model = re.search(r"model name\s*: (.*)", pathlib.Path("/proc/cpuinfo").read_text())
+    glibc = platform.libc_ver()[1]
+    kit = re.search(r"rattle-kit\S* logic \S+", (RECODE.parent.parent.parent / "README.md").read_text()).group()
+    return f"{model.group(1) if model else platform.machine()}, {os.cpu_count()} processors, Linux {platform.release()}, glibc {glibc}, {kit}"
+
+
+def main():
+    random.seed(7)
+    accented = text(MIB, b"\xc2")
+    plain = text(MIB, b"")
+    unicode = run(["iconv", "-f", "ISO_6937", "-t", "UTF-8"], accented)
+    shifted = text(MIB, b"\x19\x42")
+    parity = bytes(byte if byte.bit_count() % 2 == 0 else byte | 0x80 for byte in shifted)
+    there = ["iconv", "-f", "ISO_6937", "-t", "UTF-8"]
+    back = ["iconv", "-f", "UTF-8", "-t", "ISO_6937"]
+    rows = [
+        ("ISO/IEC 6937 into UTF-8, one letter in eight accented", "1", "6", accented, there, accented),
+        ("the same, plain ASCII", "1", "6", plain, there, plain),
+        ("UTF-8 into ISO/IEC 6937, the first text", "6", "1", unicode, back, unicode),
+        ("form 3 (7 bits, parity) into UTF-8; iconv on the first text", "3", "6", parity, there, accented),
+    ]
+    print("# Performance\n")
+    print("`recode` beside glibc's `iconv`, each as its users run it: a text of 1 MiB from a file to nowhere. `recode` goes through a transcript in sectors of 4,096 bytes.")
+    print("Made by `make bench`; no test of the gate is timed.\n")
+    print(f"Machine: {machine()}.\n")
+    print("Instructions per byte are those of callgrind, without what an empty text takes; MB/s the median of %d runs.\n" % RUNS)
+    print("| text | recode, instr/byte | iconv | ours / theirs | recode, MB/s | iconv | ours / theirs |")
+    print("|---|---|---|---|---|---|---|")
+    with tempfile.TemporaryDirectory() as room:
+        for name, source, target, ours_text, theirs, theirs_text in rows:
+            ours = [str(RECODE), source, target]
+            if ours_text is theirs_text and run(ours, ours_text) != run(theirs, theirs_text):
+                sys.exit(f"{name}: recode and iconv do not write the same")
+            files = [pathlib.Path(room) / "ours", pathlib.Path(room) / "theirs"]
+            files[0].write_bytes(ours_text)
+            files[1].write_bytes(theirs_text)
+            a, b = per_byte(ours, ours_text), per_byte(theirs, theirs_text)
+            c, d = speed(ours, files[0], len(ours_text)), speed(theirs, files[1], len(theirs_text))
+            print(f"| {name} | {a:.1f} | {b:.1f} | {a / b:.2f} | {c:.0f} | {d:.0f} | {c / d:.2f} |", flush=True)
+        print("\nHow the cost grows, on the first text:\n")
+        print("| bytes | recode, instr/byte | iconv | recode, peak KiB | iconv |")
+        print("|---|---|---|---|---|")
+        for size in (1 << 10, 1 << 14, 1 << 17, MIB, 4 * MIB, 16 * MIB):
+            part = (accented * (size // len(accented) + 1))[:size]
+            part = part if part[-1] < 0x80 else part[:-1]
+            file = pathlib.Path(room) / "part"
+            file.write_bytes(part)
+            ours = [str(RECODE), "1", "6"]
+            print(f"| {len(part):,} | {per_byte(ours, part):.1f} | {per_byte(there, part):.1f} | {peak(ours, file):,} | {peak(there, file):,} |", flush=True)
+
+
+if __name__ == "__main__":
+    main()
