@@ -3,3 +3,4 @@ pub mod Leading
 pub mod Turns
 pub mod Once
 pub mod PlainBytes
+pub mod PairsMet

@@ -3,4 +3,5 @@ pub mod Next
 pub mod Steps
 pub mod Runs
 pub mod Plain
+pub mod Pairs
 pub mod Transcribed

@@ -1,180 +1,38 @@
-// From one character set into another: the two sets, and which bytes stand alone in both.
-ghost use Rattle.std.specs.Prelude.{◌≡◌, ◌≤◌, ◌++◌, length, drop, Some};
+// From one character set into another.
+ghost use Rattle.std.specs.Prelude.{◌≡◌, ◌++◌};
 ghost use Rattle.charset.specs.Sets.{set_of};
-ghost use Rattle.conversion.specs.Plain.{only_byte, plain, AllKnown, Known};
-ghost use Rattle.conversion.specs.Runs.{Far, Runs};
-ghost use Rattle.conversion.specs.Steps.{Steps};
+ghost use Rattle.conversion.specs.Pairs.{Right};
+ghost use Rattle.conversion.specs.Runs.{Runs};
 
-use crate::{Fault, Run, Step, convert_one, next_coding};
-use charset::{CharacterSet, Coding, Front};
+use crate::Run;
+use crate::pairs::Pairs;
+use crate::two_sets::TwoSets;
+use charset::{CharacterSet, Front};
 
-// The byte of a coding of one byte.
-fn only_byte(coding: Coding) -> Option<u8>
-    ensures { result ≡ only_byte (Some coding) }
-{
-    match coding.as_bytes() {
-        [only] => Some(*only),
-        _ => None,
-    }
-}
-
-// What a byte becomes that stands alone in both sets.
-fn plain_byte<S: CharacterSet, T: CharacterSet>(source: &S, target: &T, byte: u8) -> Option<u8>
-    ensures { result ≡ plain (set_of S.CharacterSet source.now) (set_of T.CharacterSet target.now) byte }
-{
-    match next_coding(source, target, &[byte]) {
-        Ok(found) => {
-            let (coding, _) = found?;
-            only_byte(coding)
-        }
-        Err(_) => None,
-    }
-}
-
-// What every byte becomes. A loop, since a table is filled in place by number.
-fn plain_bytes<S: CharacterSet, T: CharacterSet>(source: &S, target: &T) -> [Option<u8>; 256]
-    ensures { AllKnown (set_of S.CharacterSet source.now) (set_of T.CharacterSet target.now) 256 result }
-{
-    let mut known = [None; 256];
-    for byte in 0..256usize {
-        known[byte] = plain_byte(source, target, byte as u8);
-    }
-    known
-}
-
-// From so many bytes on it is worth looking up what each byte becomes.
-const MANY_BYTES: usize = 256;
-
-// Two sets, and which bytes stand alone in both, which are converted many at a time.
+// The two sets, and the pairs of source bytes that were met.
 #[derive(Drop)]
 pub struct Converter<S: CharacterSet, T: CharacterSet> {
-    source: S,
-    target: T,
-    // What a byte becomes that stands alone in both sets; none where that is not known.
-    known: [Option<u8>; 256],
-    is_prepared: bool,
-    ghost right: { Known (set_of S.CharacterSet source) (set_of T.CharacterSet target) known },
+    sets: TwoSets<S, T>,
+    pairs: Pairs,
+    ghost right: { Right (set_of S.CharacterSet sets.source) (set_of T.CharacterSet sets.target) pairs.kept },
 }
 
 impl<S: CharacterSet, T: CharacterSet> Converter<S, T> {
     pub fn new(source: S, target: T) -> Converter<S, T>
-        ensures sets { (result.source ≡ source) × (result.target ≡ target) }
+        ensures sets { (result.sets.source ≡ source) × (result.sets.target ≡ target) }
     {
         Converter {
-            source,
-            target,
-            known: [None; 256],
-            is_prepared: false,
+            sets: TwoSets::new(source, target),
+            pairs: Pairs::none(),
         }
     }
 
-    // Looks up what each byte becomes, unless that is done, where so many bytes are to come that it is worth it.
-    fn prepare(&mut self, bytes: usize)
-        ensures sets { (self.new.source ≡ self.old.source) × (self.new.target ≡ self.old.target) }
-    {
-        if bytes >= MANY_BYTES && !self.is_prepared {
-            self.known = plain_bytes(&self.source, &self.target);
-            self.is_prepared = true;
-        }
-    }
-
-    // What the bytes in front of the input become, in front of the output, as far as that is known; how many these are.
-    fn copy_plain(&self, input: &[u8], output: &mut [u8]) -> usize
-        ensures { Far (set_of S.CharacterSet self.now.source) (set_of T.CharacterSet self.now.target) input.now output.old output.new result result result }
-    {
-        let mut count = 0;
-        while count < input.len() && count < output.len() {
-            let Some(byte) = self.known[usize::from(input[count])] else {
-                break;
-            };
-            output[count] = byte;
-            count += 1;
-        }
-        count
-    }
-
-    // The same of the bytes that stand `at` bytes behind the start of the held bytes and then the sector. None of those that are held: a
-    // transcript holds few.
-    fn plain_at(&self, held: Front, sector: &[u8], at: usize, output: &mut [u8]) -> usize
-        requires { at ≤ length (held ++ sector.now) }
-        ensures { Far (set_of S.CharacterSet self.now.source) (set_of T.CharacterSet self.now.target) (drop at (held ++ sector.now)) output.old output.new result result result }
-    {
-        let behind = held.len();
-        if at < behind {
-            return 0;
-        }
-        self.copy_plain(&sector[at - behind..], output)
-    }
-
-    // The character that stands there. As long as it begins among the held bytes it is read from a copy of the four bytes there, which decide it.
-    fn one_at(
-        &self,
-        held: Front,
-        sector: &[u8],
-        at: usize,
-        output: &mut [u8],
-    ) -> Result<Step, Fault>
-        requires { at ≤ length (held ++ sector.now) }
-        ensures { Steps (set_of S.CharacterSet self.now.source) (set_of T.CharacterSet self.now.target) (drop at (held ++ sector.now)) output.old output.new result }
-    {
-        let bytes = held.as_bytes();
-        if at < bytes.len() {
-            let window = held.window(sector, at);
-            convert_one(&self.source, &self.target, window.as_bytes(), output)
-        } else {
-            convert_one(
-                &self.source,
-                &self.target,
-                &sector[at - bytes.len()..],
-                output,
-            )
-        }
-    }
-
-    // What `convert` does: the bytes that stand alone in both sets at once, the others one at a time. A loop, since what is read and written decides where the next character is read and written.
-    fn run(&self, held: Front, sector: &[u8], output: &mut [u8]) -> Run
-        ensures { Runs (set_of S.CharacterSet self.now.source) (set_of T.CharacterSet self.now.target) (held ++ sector.now) output.old output.new result }
-    {
-        prove!(held.len() <= 4);
-        let mut characters = 0;
-        let mut read = 0;
-        let mut written = 0;
-        let end = 'run: loop {
-            let plain = self.plain_at(held, sector, read, &mut output[written..]);
-            if plain > 0 {
-                characters += plain;
-                read += plain;
-                written += plain;
-                continue;
-            }
-            match self.one_at(held, sector, read, &mut output[written..]) {
-                Ok(
-                    Step::Written {
-                        read: more,
-                        written: put,
-                    },
-                ) => {
-                    characters += 1;
-                    read += more;
-                    written += put;
-                }
-                Ok(Step::Paused(pause)) => break Ok(pause),
-                Err(fault) => break Err(fault),
-            }
-        };
-        Run {
-            characters,
-            read,
-            written,
-            end,
-        }
-    }
     // The held bytes and then the sector, character after character, into the output, until something ends it.
     pub fn convert(&mut self, held: Front, sector: &[u8], output: &mut [u8]) -> Run
-        ensures sets { (self.new.source ≡ self.old.source) × (self.new.target ≡ self.old.target) }
-        ensures runs { Runs (set_of S.CharacterSet self.old.source) (set_of T.CharacterSet self.old.target) (held ++ sector.now) output.old output.new result }
+        ensures sets { (self.new.sets.source ≡ self.old.sets.source) × (self.new.sets.target ≡ self.old.sets.target) }
+        ensures runs { Runs (set_of S.CharacterSet self.old.sets.source) (set_of T.CharacterSet self.old.sets.target) (held ++ sector.now) output.old output.new result }
     {
-        self.prepare(sector.len());
-        self.run(held, sector, output)
+        self.sets.prepare(sector.len());
+        self.sets.run(&mut self.pairs, held, sector, output)
     }
 }

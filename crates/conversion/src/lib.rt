@@ -5,9 +5,10 @@ ghost use Rattle.std.specs.Prelude.{◌≡◌};
 ghost use Rattle.charset.specs.Sets.{set_of};
 ghost use Rattle.conversion.specs.declared.Fault.TheVariants.{Unread};
 ghost use Rattle.conversion.specs.Next.{ComesNext};
-ghost use Rattle.conversion.specs.Steps.{Steps};
 
 mod converter;
+mod pairs;
+mod two_sets;
 
 use charset::{CharacterSet, Coding, Reading, SetRefusal};
 pub use converter::Converter;
@@ -59,7 +60,7 @@ pub struct Run {
 }
 
 // The target coding of the character in front of the input, and how many bytes the character is read from; none where the input is open.
-pub fn next_coding<S: CharacterSet, T: CharacterSet>(
+fn next_coding<S: CharacterSet, T: CharacterSet>(
     source: &S,
     target: &T,
     input: &[u8],
@@ -71,29 +72,4 @@ pub fn next_coding<S: CharacterSet, T: CharacterSet>(
     };
     let coding = target.write(character).ok_or(Fault::Unwritten(character))?;
     Ok(Some((coding, length)))
-}
-
-// The character in front of the input into the front of the output. The two sets are parameters of each function here: a struct of two
-// references would be made for each call and say no more.
-pub fn convert_one<S: CharacterSet, T: CharacterSet>(
-    source: &S,
-    target: &T,
-    input: &[u8],
-    output: &mut [u8],
-) -> Result<Step, Fault>
-    ensures { Steps (set_of S.CharacterSet source.now) (set_of T.CharacterSet target.now) input.now output.old output.new result }
-{
-    let Some((coding, length)) = next_coding(source, target, input)? else {
-        return Ok(Step::Paused(Pause::Open));
-    };
-    let bytes = coding.as_bytes();
-    let written = bytes.len();
-    if output.len() < written {
-        return Ok(Step::Paused(Pause::Full));
-    }
-    output[..written].copy_from_slice(bytes);
-    Ok(Step::Written {
-        read: length,
-        written,
-    })
 }

@@ -45,7 +45,7 @@ comes f h l k bytes text rest sector more s t out after r p q along parts few sm
 
 abbrev Comes : (g : Over) → After-offer g → Result Done FaultAt → Type 0
 Comes g c m =
-    ComesTo (set_of g.S.CharacterSet c.new-transcript.result.converter.source) (set_of g.T.CharacterSet c.new-transcript.result.converter.target)
+    ComesTo (set_of g.S.CharacterSet c.new-transcript.result.converter.sets.source) (set_of g.T.CharacterSet c.new-transcript.result.converter.sets.target)
     c.args.bytes.now (vec_items c.loop-sector.text) c.offer.new.output (chunks_rest c.next.new.self) (snapshot c.offer.new.self.progress) m
 
 at_offer : (g : Over) (c : After-offer g) → (m : Result Done FaultAt) × (c.offer.result ≡ refused_by m) × Comes g c m
@@ -53,7 +53,7 @@ at_offer g c =
     let m = g.S.CharacterSet in let n = g.T.CharacterSet in
     let i = c.loop-sector.invariant in
     let steps = c.in-Some.ensures.steps in
-    comes (λ x. set_of m x) (λ y. set_of n y) (g.met.S.CharacterSet.lawful c.new-transcript.result.converter.source) (g.met.T.CharacterSet.lawful c.new-transcript.result.converter.target)
+    comes (λ x. set_of m x) (λ y. set_of n y) (g.met.S.CharacterSet.lawful c.new-transcript.result.converter.sets.source) (g.met.T.CharacterSet.lawful c.new-transcript.result.converter.sets.target)
     c.args.bytes.now (vec_items c.loop-sector.text) _ c.in-Some.sector.now (chunks_rest c.next.new.self) (snapshot c.loop-sector.transcript.progress) (snapshot c.offer.new.self.progress) c.loop-sector.output c.offer.new.output
     c.offer.result i.3 i.4 i.6 steps.1.0 (omega (arith, steps.1.1, i.2)) c.if-bytes-gt-LONGEST_SOURCE.false i.5 c.offer.ensures.told
 
@@ -84,7 +84,7 @@ loop-sector-preserved g c =
 pub returns-in-Err : goal.returns-in-Err
 returns-in-Err g c =
     let m = g.S.CharacterSet in let n = g.T.CharacterSet in
-    let x = c.new-transcript.result.converter.source in let y = c.new-transcript.result.converter.target in
+    let x = c.new-transcript.result.converter.sets.source in let y = c.new-transcript.result.converter.sets.target in
     let made = c.new-transcript.ensures.sets in
     let f = c.in-Err.fault in
     let longer : vec_items c.extend_from_slice-in-Err.new.self ≡ vec_items c.loop-sector.text ++ take f.done.written c.offer.new.output = c.in_ok-extend_from_slice-in-Err.ensures.items in
@@ -101,7 +101,7 @@ returns-in-Err g c =
 pub returns : goal.returns
 returns g c =
     let m = g.S.CharacterSet in let n = g.T.CharacterSet in
-    let x = c.new-transcript.result.converter.source in let y = c.new-transcript.result.converter.target in
+    let x = c.new-transcript.result.converter.sets.source in let y = c.new-transcript.result.converter.sets.target in
     let i = c.loop-sector.invariant in
     let made = c.new-transcript.ensures.sets in
     let at_sets : Step (set_of m x) (set_of n y) (snapshot c.loop-sector.transcript.progress) (close c.close.result) (snapshot c.close.new.self.progress) =

@@ -10,9 +10,9 @@ invariant-loop-sector g l =
     (goal.iterator-loop-sector g).can_next l.sector-iterator
     × (goal.iterator-loop-sector g).is_finite l.sector-iterator
     × (chunks_size l.sector-iterator ≡ 4096)
-    × (l.transcript.converter.source ≡ l.initial.transcript.converter.source)
-    × (l.transcript.converter.target ≡ l.initial.transcript.converter.target)
+    × (l.transcript.converter.sets.source ≡ l.initial.transcript.converter.sets.source)
+    × (l.transcript.converter.sets.target ≡ l.initial.transcript.converter.sets.target)
     × (length l.output ≡ 16396)
-    × Along (set_of g.S.CharacterSet l.initial.transcript.converter.source)
-    (set_of g.T.CharacterSet l.initial.transcript.converter.target)
+    × Along (set_of g.S.CharacterSet l.initial.transcript.converter.sets.source)
+    (set_of g.T.CharacterSet l.initial.transcript.converter.sets.target)
     l.bytes (vec_items l.text) (chunks_rest l.sector-iterator) (snapshot l.transcript.progress)

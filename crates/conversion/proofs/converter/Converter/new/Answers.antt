@@ -1,7 +1,7 @@
-use Rattle.std.proofs.Common.{refl}
 use Rattle.charset.specs.Sets.{set_of}
-use Rattle.conversion.proofs.PlainBytes.{none_known}
+use Rattle.conversion.proofs.PairsMet.{none_right}
 use Rattle.conversion.proofs.converter.Converter.new.Goals as goal
 
 pub invariant_of-result : goal.invariant_of-result
-invariant_of-result g c = record { right = (refl, none_known (set_of g.S.CharacterSet c.args.source) (set_of g.T.CharacterSet c.args.target)) }
+invariant_of-result g c =
+    record { right = none_right (set_of g.S.CharacterSet c.new.result.source) (set_of g.T.CharacterSet c.new.result.target) _ c.none.ensures }

@@ -43,6 +43,6 @@ returns-in-Open-Offer-clause-told g c =
     let m = c.args.self.now in
     let x = g.S.CharacterSet in let y = g.T.CharacterSet in
     rw c.in-Open-Offer.is-1
-    (offered_open (set_of x m.converter.source) (set_of y m.converter.target)
+    (offered_open (set_of x m.converter.sets.source) (set_of y m.converter.sets.target)
     (snapshot m.progress) (snapshot c.feed.new.self.progress) c.in-Open-Offer.sector.now c.in-Open-Offer.output.now _ c.feed.new.output c.feed.result c.map.result
     c.in-Open-Offer.is-0 c.feed.ensures.told (search rules) (made c.feed.result c.map.result (MatchResult-weaker c.feed.result c.map.ensures.cases (λ x p. search rules) (λ y p. p))))

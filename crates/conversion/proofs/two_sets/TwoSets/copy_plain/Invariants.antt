@@ -1,7 +1,7 @@
 use Rattle.std.proofs.Common.{length, ◌-◌}
 use Rattle.charset.specs.Sets.{set_of}
 use Rattle.conversion.specs.Runs.{Far}
-use Rattle.conversion.proofs.converter.Converter.copy_plain.Given as goal
+use Rattle.conversion.proofs.two_sets.TwoSets.copy_plain.Given as goal
 
 abbrev pub invariant-loop-count : goal.invariant-loop-count
 invariant-loop-count g l =

@@ -1,6 +1,6 @@
 use Rattle.charset.specs.Sets.{set_of}
 use Rattle.conversion.proofs.PlainBytes.{first_known, next_known}
-use Rattle.conversion.proofs.converter.plain_bytes.Goals as goal
+use Rattle.conversion.proofs.two_sets.plain_bytes.Goals as goal
 
 pub loop-byte-init : goal.loop-byte-init
 loop-byte-init g c = first_known (set_of g.S.CharacterSet c.args.source.now) (set_of g.T.CharacterSet c.args.target.now)

@@ -3,7 +3,7 @@ use Rattle.charset.specs.Sets.{set_of}
 use Rattle.charset.specs.Meaning.{Meaning}
 use Rattle.conversion.specs.Runs.{Far}
 use Rattle.conversion.proofs.Windows.{behind}
-use Rattle.conversion.proofs.converter.Converter.plain_at.Goals as goal
+use Rattle.conversion.proofs.two_sets.TwoSets.plain_at.Goals as goal
 
 seen : (S T : Meaning) (held sector out out' : List ℕ) (at n b : ℕ) → b ≡ length held → b ≤ at
     → Far S T (take (length sector - (at - b)) (drop (at - b) sector)) out out' n n n → Far S T (drop at (held ++ sector)) out out' n n n

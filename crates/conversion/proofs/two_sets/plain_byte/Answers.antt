@@ -4,7 +4,7 @@ use Rattle.charset.specs.Meaning.{Meaning, Laws}
 use Rattle.conversion.specs.Next.{ComesNext}
 use Rattle.conversion.specs.Plain.{plain}
 use Rattle.conversion.proofs.PlainBytes.{told, becomes}
-use Rattle.conversion.proofs.converter.plain_byte.Goals as goal
+use Rattle.conversion.proofs.two_sets.plain_byte.Goals as goal
 
 -- where x is what was found
 found : {S : Meaning} (T : Meaning) → Laws S → (b : ℕ) (y : Option (List ℕ × ℕ)) {x : Option (List ℕ × ℕ)} → x ≡ y → ComesNext S T (b ∷ []) (Ok x) → told (Ok y) ≡ plain S T b

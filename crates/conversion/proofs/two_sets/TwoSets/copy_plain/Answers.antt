@@ -1,7 +1,7 @@
 use Rattle.std.proofs.Common.{None, slice_index_or, sym, ap, ◌∙◌, arith}
 use Rattle.charset.specs.Sets.{set_of}
 use Rattle.conversion.proofs.Turns.{far_none, far_plain}
-use Rattle.conversion.proofs.converter.Converter.copy_plain.Goals as goal
+use Rattle.conversion.proofs.two_sets.TwoSets.copy_plain.Goals as goal
 
 pub loop-count-init : goal.loop-count-init
 loop-count-init g c = far_none (set_of g.S.CharacterSet c.args.self.now.source) (set_of g.T.CharacterSet c.args.self.now.target) (g.met.S.CharacterSet.lawful c.args.self.now.source) c.args.input.now c.args.output.now

@@ -9,7 +9,7 @@ use Rattle.conversion.specs.declared.Pause.{Pause}
 use Rattle.conversion.specs.Steps.{Steps}
 use Rattle.conversion.specs.Runs.{Far, Runs}
 use Rattle.conversion.proofs.Turns.{far_join, far_more, far_ends}
-use Rattle.conversion.proofs.converter.Converter.run.Goals as goal
+use Rattle.conversion.proofs.two_sets.TwoSets.run.Goals as goal
 
 -- the part of the output behind what was written, and the output with other bytes in that part
 abbrev part : ℕ → List ℕ → List ℕ
@@ -41,26 +41,30 @@ module _ {S T : Meaning} (l : Laws S) (held sector out o last : List ℕ) {count
   fails f w = far_ends S T l (held ++ sector) out o count at put far (Err f) _ last w.0 w.1 refl
 
 pub run-preserved-then-plain-gt0 : goal.run-preserved-then-plain-gt0
-run-preserved-then-plain-gt0 g c =
-    plain (g.met.S.CharacterSet.lawful c.args.self.now.source) c.args.held c.args.sector.now c.args.output.now c.run.output c.run.invariant c.plain_at-plain.new.output c.plain_at-plain.result c.plain_at-plain.ensures
+run-preserved-then-plain-gt0 g c = (
+    c.run.invariant.0,
+    plain (g.met.S.CharacterSet.lawful c.args.self.now.source) c.args.held c.args.sector.now c.args.output.now c.run.output c.run.invariant.1 c.plain_at-plain.new.output c.plain_at-plain.result c.plain_at-plain.ensures,
+)
 
 pub run-preserved : goal.run-preserved
 run-preserved g c =
-    let l = g.met.S.CharacterSet.lawful c.args.self.now.source in
-    more l c.args.held c.args.sector.now c.args.output.now _ c.one_at.new.output
-    (still l c.args.held c.args.sector.now c.args.output.now c.run.output c.run.invariant c.plain_at-plain.new.output c.plain_at-plain.result c.if-plain-gt0.false c.plain_at-plain.ensures)
-    _ _ c.in-Ok-Written.field-0-is c.in-Ok-Written.ensures
+    let l = g.met.S.CharacterSet.lawful c.args.self.now.source in (
+      c.in-Ok-Written.ensures.right,
+      more l c.args.held c.args.sector.now c.args.output.now _ c.one_at.new.output
+      (still l c.args.held c.args.sector.now c.args.output.now c.run.output c.run.invariant.1 c.plain_at-plain.new.output c.plain_at-plain.result c.if-plain-gt0.false c.plain_at-plain.ensures)
+      _ _ c.in-Ok-Written.field-0-is c.in-Ok-Written.ensures.steps,
+    )
 
-pub returns-in-Ok-Paused : goal.returns-in-Ok-Paused
-returns-in-Ok-Paused g c =
+pub returns-in-Ok-Paused-clause-runs : goal.returns-in-Ok-Paused-clause-runs
+returns-in-Ok-Paused-clause-runs g c =
     let l = g.met.S.CharacterSet.lawful c.args.self.now.source in
     ends l c.args.held c.args.sector.now c.args.output.now _ c.one_at.new.output
-    (still l c.args.held c.args.sector.now c.args.output.now c.run.output c.run.invariant c.plain_at-plain.new.output c.plain_at-plain.result c.if-plain-gt0.false c.plain_at-plain.ensures)
-    _ c.in-Ok-Paused.field-0-is c.in-Ok-Paused.ensures
+    (still l c.args.held c.args.sector.now c.args.output.now c.run.output c.run.invariant.1 c.plain_at-plain.new.output c.plain_at-plain.result c.if-plain-gt0.false c.plain_at-plain.ensures)
+    _ c.in-Ok-Paused.field-0-is c.in-Ok-Paused.ensures.steps
 
-pub returns-in-Err : goal.returns-in-Err
-returns-in-Err g c =
+pub returns-in-Err-clause-runs : goal.returns-in-Err-clause-runs
+returns-in-Err-clause-runs g c =
     let l = g.met.S.CharacterSet.lawful c.args.self.now.source in
     fails l c.args.held c.args.sector.now c.args.output.now _ c.one_at.new.output
-    (still l c.args.held c.args.sector.now c.args.output.now c.run.output c.run.invariant c.plain_at-plain.new.output c.plain_at-plain.result c.if-plain-gt0.false c.plain_at-plain.ensures)
-    c.in-Err.fault c.in-Err.ensures
+    (still l c.args.held c.args.sector.now c.args.output.now c.run.output c.run.invariant.1 c.plain_at-plain.new.output c.plain_at-plain.result c.if-plain-gt0.false c.plain_at-plain.ensures)
+    c.in-Err.fault c.in-Err.ensures.steps
