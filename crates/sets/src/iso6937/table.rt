@@ -25,9 +25,9 @@ const SUPPLEMENTARY: CodeTable = CodeTable { columns: [
     [0x0138, 0x00E6, 0x0111, 0x00F0, 0x0127, 0x0131, 0x0133, 0x0140, 0x0142, 0x00F8, 0x0153, 0x00DF, 0x00FE, 0x0167, 0x014B, 0x00AD],
 ] };
 
-// The small letters first, since they are met most often. A static: a constant would be built anew for each search.
+// The small letters first, since they are met most often. By reference: a constant array would be built anew for each search.
 #[rattlefmt::skip]
-static DIACRITICS: [Diacritic; 13] = [
+const DIACRITICS: &[Diacritic; 13] = &[
     // grave
     Diacritic { mark: 0xC1, letters: &[
         (b'a', 0x00E0), (b'e', 0x00E8), (b'i', 0x00EC), (b'o', 0x00F2), (b'u', 0x00F9), (b'A', 0x00C0),

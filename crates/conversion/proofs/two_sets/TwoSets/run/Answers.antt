@@ -42,8 +42,8 @@ module _ {S T : Meaning} (l : Laws S) (held sector out o last : List ℕ) {count
 
 pub run-preserved-then-plain-gt0 : goal.run-preserved-then-plain-gt0
 run-preserved-then-plain-gt0 g c = (
-    c.run.invariant.0,
-    plain (g.met.S.CharacterSet.lawful c.args.self.now.source) c.args.held c.args.sector.now c.args.output.now c.run.output c.run.invariant.1 c.plain_at-plain.new.output c.plain_at-plain.result c.plain_at-plain.ensures,
+  c.run.invariant.0,
+  plain (g.met.S.CharacterSet.lawful c.args.self.now.source) c.args.held c.args.sector.now c.args.output.now c.run.output c.run.invariant.1 c.plain_at-plain.new.output c.plain_at-plain.result c.plain_at-plain.ensures,
 )
 
 pub run-preserved : goal.run-preserved
@@ -51,8 +51,8 @@ run-preserved g c =
     let l = g.met.S.CharacterSet.lawful c.args.self.now.source in (
       c.in-Ok-Written.ensures.right,
       more l c.args.held c.args.sector.now c.args.output.now _ c.one_at.new.output
-      (still l c.args.held c.args.sector.now c.args.output.now c.run.output c.run.invariant.1 c.plain_at-plain.new.output c.plain_at-plain.result c.if-plain-gt0.false c.plain_at-plain.ensures)
-      _ _ c.in-Ok-Written.field-0-is c.in-Ok-Written.ensures.steps,
+          (still l c.args.held c.args.sector.now c.args.output.now c.run.output c.run.invariant.1 c.plain_at-plain.new.output c.plain_at-plain.result c.if-plain-gt0.false c.plain_at-plain.ensures)
+          _ _ c.in-Ok-Written.field-0-is c.in-Ok-Written.ensures.steps,
     )
 
 pub returns-in-Ok-Paused-clause-runs : goal.returns-in-Ok-Paused-clause-runs
