@@ -19,6 +19,10 @@ import time
 RECODE = pathlib.Path(__file__).resolve().parent.parent / "target/bin/recode"
 MIB = 1 << 20
 RUNS = 9
+NOTES = """
+A run of bytes that stand alone in both sets goes by a table of 256 that a transcript fills at its first sector of 256 bytes or more, which is what a text of
+1,024 bytes pays for. Two bytes that code an accented letter are looked up among those that were met before. In form 3 such a letter takes three bytes, and is
+read through its four layers each time. `recode` holds the whole text and what it writes in memory."""
 
 
 def text(size, accent):
@@ -115,6 +119,7 @@ def main():
             file.write_bytes(part)
             ours = [str(RECODE), "1", "6"]
             print(f"| {len(part):,} | {per_byte(ours, part):.1f} | {per_byte(there, part):.1f} | {peak(ours, file):,} | {peak(there, file):,} |", flush=True)
+    print(NOTES)
 
 
 if __name__ == "__main__":
