@@ -8,7 +8,6 @@ second as the median of several runs, growth with the size, and peak memory. It 
 import os
 import pathlib
 import platform
-import random
 import re
 import statistics
 import subprocess
@@ -16,24 +15,15 @@ import sys
 import tempfile
 import time
 
+from texts import text, with_parity
+
 RECODE = pathlib.Path(__file__).resolve().parent.parent / "target/bin/recode"
 MIB = 1 << 20
 RUNS = 9
 NOTES = """
 A run of bytes that stand alone in both sets goes by a table of 256 that a transcript fills at its first sector of 256 bytes or more, which is what a text of
 1,024 bytes pays for. Two bytes that code an accented letter are looked up among those that were met before. In form 3 such a letter takes three bytes, and is
-read through its four layers each time. `recode` holds the whole text and what it writes in memory."""
-
-
-def text(size, accent):
-    """Letters and spaces, about one letter in eight with the accent before it."""
-    out = bytearray()
-    while len(out) < size - 3:
-        if accent and random.random() < 0.125:
-            out += accent + bytes([random.choice(b"aeiou")])
-        else:
-            out.append(random.choice(b"abcdefghijklmnopqrstuvwxyz "))
-    return bytes(out)
+read through its three layers each time. `recode` holds the whole text and what it writes in memory."""
 
 
 def run(words, source):
@@ -77,12 +67,10 @@ def machine():
 
 
 def main():
-    random.seed(7)
     accented = text(MIB, b"\xc2")
     plain = text(MIB, b"")
     unicode = run(["iconv", "-f", "ISO_6937", "-t", "UTF-8"], accented)
-    shifted = text(MIB, b"\x19\x42")
-    parity = bytes(byte if byte.bit_count() % 2 == 0 else byte | 0x80 for byte in shifted)
+    parity = with_parity(text(MIB, b"\x19\x42"))
     there = ["iconv", "-f", "ISO_6937", "-t", "UTF-8"]
     back = ["iconv", "-f", "UTF-8", "-t", "ISO_6937"]
     rows = [

@@ -121,6 +121,8 @@ def chosen(found):
 
 
 def make(name):
+    if (LISTS / f"{name}.txt").exists():
+        sys.exit(f"tools/planted/{name}.txt is there already; what was added by hand would be lost")
     blocks = []
     for file in sorted((TOP / "crates" / name / "src").rglob("*.rt")):
         whole = file.read_text()
@@ -188,16 +190,18 @@ def run(names):
             log = TOP / "target" / f"planted-{name}.log"
             log.parent.mkdir(exist_ok=True)
             log.write_text("".join(f"{plant}: {told}\n" for plant, _, told in found))
+            kinds = []
             for (plant, text, block), (_, kind, told) in zip(plants, found):
-                known = re.search(r"^known: .*", block, re.M)
-                if kind == "survivor" and not known and told_by_run(top, name, text):
+                if kind == "survivor" and re.search(r"^known: .*", block, re.M):
+                    kind = "known"
+                elif kind == "survivor" and told_by_run(top, name, text):
                     kind = "told by its run"
-                elif kind == "survivor" and not known:
-                    alive += 1
+                elif kind == "survivor":
                     print(f"SURVIVOR {name}/{plant}\n{text}")
                 elif kind in ("bad", "not tried"):
                     print(f"{kind}: {name}/{plant}: {told[:120]}")
-            kinds = [kind for _, kind, _ in found]
+                kinds.append(kind)
+            alive += kinds.count("survivor")
             print(f"{name}: {len(kinds)} edits, " + ", ".join(f"{kinds.count(kind)} {kind}" for kind in sorted(set(kinds))), flush=True)
     return alive
 

@@ -1,15 +1,16 @@
 -- Bytes that stand alone in two sets. Assumes nothing.
-use Rattle.std.proofs.Common.{◌≡◌, ℕ, zero, suc, replicate, ◌<◌, List, [], ◌∷◌, length, take, Some, None, Ok, Err, Option, Result, slice_index_or, slice_set, length-set, ◌+◌, inl, inr, sym, refl, ap, ◌∙◌, arith}
+use Rattle.std.proofs.Common.{◌≡◌, ℕ, zero, suc, replicate, ◌<◌, List, [], ◌∷◌, length, take, Some, None, Ok, Err, Option, Result, option_and_then, slice_index_or, slice_set, length-set, ◌+◌, inl, inr, sym, refl, ap, ◌∙◌, arith}
 use Rattle.std.proofs.lemmas.Bool.{cases_order}
 use Rattle.std.proofs.lemmas.List.{get_or-replicate, get_or-set_same, get_or-set_other}
-use Rattle.std.proofs.lemmas.Option.{none-some, same_Some}
+use Rattle.std.proofs.lemmas.Option.{none-some, option_and_then_some, same_Some}
 use Rattle.charset.specs.declared.Reading.TheVariants as reading
 use Rattle.charset.specs.Meaning.{Meaning, Codes, Laws}
 use Rattle.charset.specs.Answers.{Reads}
 use Rattle.conversion.specs.declared.Fault.{Fault}
 use Rattle.conversion.specs.declared.Fault.TheVariants.{Unread, Unwritten, Unfinished}
 use Rattle.conversion.specs.Next.{ComesNext}
-use Rattle.conversion.specs.Plain.{only_byte, in_one_byte, plain, AllKnown}
+use Rattle.conversion.specs.Becomes.{becomes}
+use Rattle.conversion.specs.Plain.{only_byte, plain, AllKnown}
 
 -- the coding that comes next in one byte is the byte's own
 whole : {S : Meaning} → Laws S → (b c n : ℕ) → Reads S (b ∷ []) (Ok (reading.Found c n)) → Codes S (b ∷ []) c
@@ -28,16 +29,16 @@ module _ {S : Meaning} (T : Meaning) (l : Laws S) (b : ℕ) where
   silent : ((n c : ℕ) → Codes S (take n (b ∷ [])) c → ⊥) → plain S T b ≡ None
   silent h = go (S.codings.character (b ∷ [])) refl
     where
-      go : (o : Option ℕ) → S.codings.character (b ∷ []) ≡ o → in_one_byte T o ≡ None
+      go : (o : Option ℕ) → S.codings.character (b ∷ []) ≡ o → only_byte (option_and_then T.codings.string o) ≡ None
       go None e = refl
       go (Some c) e = absurd (h 1 c e)
 
-  pub becomes : (r : Result (Option (List ℕ × ℕ)) Fault) → ComesNext S T (b ∷ []) r → told r ≡ plain S T b
-  becomes (Ok (Some p)) h = sym (rw (whole l b h.0 p.1 h.1, h.2))
-  becomes (Ok None) h = sym (silent (l.opening_bare (b ∷ []) h))
-  becomes (Err (Unread q)) h = sym (silent h.0.0)
-  becomes (Err (Unwritten c)) h = sym (rw (whole l b c h.0 h.1, h.2))
-  becomes (Err Unfinished) h = absurd h
+  pub told_plain : (r : Result (Option (List ℕ × ℕ)) Fault) → ComesNext S T (b ∷ []) r → told r ≡ plain S T b
+  told_plain (Ok (Some p)) h = sym (rw (whole l b h.0 p.1 h.1, h.2))
+  told_plain (Ok None) h = sym (silent (l.opening_bare (b ∷ []) h))
+  told_plain (Err (Unread q)) h = sym (silent h.0.0)
+  told_plain (Err (Unwritten c)) h = sym (rw (whole l b c h.0 h.1, h.2))
+  told_plain (Err Unfinished) h = absurd h
 
 -- where nothing is known of any byte, nothing is wrong
 pub none_known : (S T : Meaning) → (b t : ℕ) → b < 256 → slice_index_or (replicate 256 None) b None ≡ Some t → plain S T b ≡ Some t
@@ -67,8 +68,4 @@ only_parts (Some (u ∷ [])) t e = ap (λ x. Some (x ∷ [])) (same_Some _ _ e)
 only_parts (Some (u ∷ x ∷ s)) t e = absurd (none-some _ e)
 
 pub plain_parts : (S T : Meaning) (b t : ℕ) → plain S T b ≡ Some t → (c : ℕ) × Codes S (b ∷ []) c × (T.codings.string c ≡ Some (t ∷ []))
-plain_parts S T b t e = go (S.codings.character (b ∷ [])) refl e
-  where
-    go : (o : Option ℕ) → S.codings.character (b ∷ []) ≡ o → in_one_byte T o ≡ Some t → (c : ℕ) × Codes S (b ∷ []) c × (T.codings.string c ≡ Some (t ∷ []))
-    go None f g = absurd (none-some _ g)
-    go (Some c) f g = (c, f, only_parts (T.codings.string c) t g)
+plain_parts S T b t e = option_and_then_some _ _ _ (only_parts (becomes S T (b ∷ [])) t e) (λ c f g. (c, f, g))

@@ -1,6 +1,7 @@
 -- Pairs of bytes that code one character, kept with the coding that it becomes. Assumes nothing.
-use Rattle.std.specs.Prelude.{◌≡◌, ℕ, ◌+◌, ◌*◌, ◌%◌, ◌&&◌, cond, List, [], ◌∷◌, Some, None, Option, option_and_then, ◌==◌, slice_index_or}
+use Rattle.std.specs.Prelude.{◌≡◌, ℕ, ◌+◌, ◌*◌, ◌%◌, ◌&&◌, cond, List, [], ◌∷◌, Some, None, Option, ◌==◌, slice_index_or}
 use Rattle.charset.specs.Meaning.{Meaning}
+use Rattle.conversion.specs.Becomes.{becomes}
 use Rattle.conversion.specs.declared.pairs.Pair.{Pair}
 
 -- the place of a pair
@@ -15,10 +16,6 @@ if_this a b (Some p) = cond (p.first == a && p.second == b) (Some p.coding) None
 abbrev pub found_in : List (Option Pair) → ℕ → ℕ → Option (List ℕ)
 found_in kept a b = if_this a b (slice_index_or kept (slot a b) None)
 
--- the coding in T of the character that a pair codes in S
-abbrev pub pair_becomes : Meaning → Meaning → ℕ → ℕ → Option (List ℕ)
-pair_becomes S T a b = option_and_then T.codings.string (S.codings.character (a ∷ b ∷ []))
-
 -- what is kept of each pair is right
 abbrev pub Right : Meaning → Meaning → List (Option Pair) → Type 0
-Right S T kept = (i : ℕ) (p : Pair) → slice_index_or kept i None ≡ Some p → pair_becomes S T p.first p.second ≡ Some p.coding
+Right S T kept = (i : ℕ) (p : Pair) → slice_index_or kept i None ≡ Some p → becomes S T (p.first ∷ p.second ∷ []) ≡ Some p.coding

@@ -1,6 +1,7 @@
 -- Bytes that stand alone in two sets. Assumes nothing.
 use Rattle.std.specs.Prelude.{◌≡◌, ℕ, ◌<◌, List, [], ◌∷◌, length, Some, None, Option, slice_index_or}
 use Rattle.charset.specs.Meaning.{Meaning}
+use Rattle.conversion.specs.Becomes.{becomes}
 
 -- the one byte of a coding, if it has one
 abbrev pub only_byte : Option (List ℕ) → Option ℕ
@@ -9,13 +10,9 @@ only_byte (Some []) = None
 only_byte (Some (t ∷ [])) = Some t
 only_byte (Some (t ∷ u ∷ s)) = None
 
-abbrev pub in_one_byte : Meaning → Option ℕ → Option ℕ
-in_one_byte T None = None
-in_one_byte T (Some c) = only_byte (T.codings.string c)
-
--- the byte of T that codes the character that the byte b codes in S, if both are there
+-- the byte that the byte b alone becomes, if it becomes one byte
 abbrev pub plain : Meaning → Meaning → ℕ → Option ℕ
-plain S T b = in_one_byte T (S.codings.character (b ∷ []))
+plain S T b = only_byte (becomes S T (b ∷ []))
 
 -- what each byte below n becomes is known
 abbrev pub AllKnown : Meaning → Meaning → ℕ → List (Option ℕ) → Type 0

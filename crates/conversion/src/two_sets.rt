@@ -171,7 +171,8 @@ impl<S: CharacterSet, T: CharacterSet> TwoSets<S, T> {
         }
     }
 
-    // What `convert` does: the bytes that stand alone in both sets at once, the others one at a time. A loop, since what is read and written decides where the next character is read and written.
+    // What `convert` does: the bytes that stand alone in both sets at once, the others one at a time. A loop, since what is read and written
+    // decides where the next character is read and written.
     pub(crate) fn run(
         &self,
         pairs: &mut Pairs,

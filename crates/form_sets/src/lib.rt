@@ -2,7 +2,6 @@
 #![tactic(auto)]
 
 ghost use Rattle.std.specs.Prelude.{◌≡◌, IfOk};
-ghost use Rattle.charset.specs.Meaning.{Laws};
 ghost use Rattle.form_sets.specs.Forms.{form_set};
 ghost use Rattle.form_sets.specs.Chosen.{meaning_of};
 ghost use Rattle.form_sets.specs.ChosenLaws.{chosen_laws};
@@ -17,7 +16,7 @@ use pages::Form;
 use sets::{Iso6937, SingleByte, Utf8};
 use std::alloc::{AllocError, Global};
 
-// One case for each form, since each has a stack of another type.
+// One case for each type of stack: those of ISO/IEC 8859-16 and of the Sami set are of one type.
 #[derive(Drop)]
 pub enum FormSet {
     EightBit(Controls<Iso6937>),

@@ -14,7 +14,7 @@ ghost use Rattle.conversion.specs.Transcribed.{TheTranscript};
 
 use answers::{FaultAt, Refusal};
 use charset::CharacterSet;
-use std::alloc::{AllocError, AllocFailed, Global};
+use std::alloc::{AllocError, Global};
 use std::error::Error;
 use std::fmt;
 use transcript::{LONGEST_SECTOR, LONGEST_SOURCE, Transcript};
@@ -44,15 +44,6 @@ impl From<AllocError> for Failure {
     ghost from_gives = { λ _ r. r ≡ NoMemory };
 
     fn from(_error: AllocError) -> Failure {
-        Failure::NoMemory
-    }
-}
-
-// Nothing here fails so; it stays for callers that push, as no public promise may go.
-impl<X: Drop> From<AllocFailed<X>> for Failure {
-    ghost from_gives = { λ _ r. r ≡ NoMemory };
-
-    fn from(_refused: AllocFailed<X>) -> Failure {
         Failure::NoMemory
     }
 }

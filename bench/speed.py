@@ -1,13 +1,14 @@
 #!/usr/bin/env python3
 """Times finetalc on rolls of up to 65,536 bytes that this script makes, and prints a table. A benchmark, no test.
 
-    tools/speed.py          the median of 31 runs each, start to end
+    bench/speed.py          the median of 31 runs each, start to end
 """
 import pathlib
-import random
 import statistics
 import subprocess
 import time
+
+from texts import text, with_parity
 
 PROGRAM = pathlib.Path(__file__).resolve().parent.parent / "target/bin/finetalc"
 LONGEST = 65_536
@@ -23,30 +24,14 @@ def packed(pages):
     return b"".join(page for _, page in pages) + index + total + len(pages).to_bytes(4, "big") + total + b"ROLL"
 
 
-def text(size, accent):
-    """Letters, about one in eight with an accent."""
-    out = bytearray()
-    while len(out) < size - 3:
-        if random.random() < 0.125:
-            out += accent + bytes([random.choice(b"aeiou")])
-        else:
-            out.append(random.choice(b"abcdefghijklmnopqrstuvwxyz "))
-    return bytes(out)
-
-
-def with_parity(page):
-    return bytes(byte if byte.bit_count() % 2 == 0 else byte | 0x80 for byte in page)
-
-
 def main():
-    random.seed(1)
     one = LONGEST - 28
     shifted = text(one, b"\x19\x42")
     rolls = {
         "form 1": packed([(1, text(one, b"\xc2"))]),
         "form 2": packed([(2, shifted)]),
         "form 3": packed([(3, with_parity(shifted))]),
-        "form 7": packed([(7, bytes(random.choice(b"abcdefgh ") for _ in range(one)))]),
+        "form 7": packed([(7, text(one, b""))]),
         "1,024 pages": packed([(1, text(50, b"\xc2")) for _ in range(1024)]),
     }
     print("roll          bytes   median ms")
