@@ -56,17 +56,18 @@ impl From<FaultAt> for Refusal {
 }
 
 // A refusal by its number and its values, as the table of refusals lists them: numbers and no enum. A value that does not come with the number is 0.
-// `standing` is the number of the fault that stood already.
+// `standing` is the number of the fault that stood already. Laid out as C does, since C clients are answered by it.
+#[repr(C)]
 #[derive(Clone, Copy, PartialEq, Eq, Debug, Default)]
 pub struct Told {
-    pub number: u8,
-    pub standing: u8,
     pub offset: u64,
-    pub cause: u8,
-    pub depth: u8,
-    pub character: u32,
     pub taken: usize,
     pub written: usize,
+    pub character: u32,
+    pub number: u8,
+    pub standing: u8,
+    pub cause: u8,
+    pub depth: u8,
 }
 
 impl Refusal {

@@ -1,7 +1,8 @@
 // The character set of a form of text, chosen while the program runs.
 #![tactic(auto)]
 
-ghost use Rattle.std.specs.Prelude.{◌≡◌, IfOk};
+ghost use Rattle.std.specs.Prelude.{◌≡◌, MatchResult};
+ghost use Rattle.pages.specs.declared.page.Form.TheVariants.{Basic};
 ghost use Rattle.form_sets.specs.Forms.{form_set};
 ghost use Rattle.form_sets.specs.Chosen.{meaning_of};
 ghost use Rattle.form_sets.specs.ChosenLaws.{chosen_laws};
@@ -60,9 +61,9 @@ impl CharacterSet for FormSet {
 }
 
 impl FormSet {
-    // The set of a form.
+    // The set of a form. Only the last has a list, which wants memory.
     pub fn of(heap: Global, form: Form) -> Result<FormSet, AllocError>
-        ensures { IfOk result (λ s. meaning_of s ≡ form_set form) }
+        ensures { MatchResult result (λ s. meaning_of s ≡ form_set form) (λ _. form ≡ Basic) }
     {
         match form {
             Form::EightBit => Ok(FormSet::EightBit(with_controls(PAGE_CONTROLS, Iso6937))),

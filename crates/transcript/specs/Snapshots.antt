@@ -1,13 +1,28 @@
 -- The progress of a transcript as a snapshot, and how it moves on. Assumes nothing.
-use Rattle.std.specs.Prelude.{◌≡◌, ℕ, zero, suc, ◌+◌, ◌*◌, ◌≤◌, List, [], ◌++◌, length, drop, Some, None, Ok, Err, Result}
+use Rattle.std.specs.Prelude.{◌≡◌, ℕ, zero, suc, ◌+◌, ◌*◌, ◌≤◌, List, [], ◌++◌, length, drop, Some, None, Option, Ok, Err, Result}
 use Rattle.conversion.specs.declared.Pause.TheVariants as pause
 use Rattle.conversion.specs.declared.Run.{Run}
 use Rattle.answers.specs.declared.Refusal.{Refusal}
+use Rattle.answers.specs.declared.Status.{Status}
 use Rattle.transcript.specs.declared.progress.Progress.{Progress}
 use Rattle.transcript.specs.Calls.{Snapshot, OfferAnswer, limits, takes, holds, answers, state_after, offset_of}
 
 abbrev pub snapshot : Progress → Snapshot
 snapshot k = record { state = k.state; taken = k.taken; characters = k.characters; written = k.written; held = k.held }
+
+-- the counts of every transcript keep these limits
+pub record Counts (s : Snapshot) : Type 0 where
+  pub a_byte_each : s.characters + length s.held ≤ s.taken
+  pub limit : s.taken ≤ 4294967296
+  pub four_bytes_each : s.written ≤ 4 * s.characters
+
+-- the snapshot of which a status was told while these bytes were held
+abbrev pub told_with : Status → List ℕ → Snapshot
+told_with u held = record { state = u.state; taken = u.taken; characters = u.characters; written = u.written; held = held }
+
+abbrev pub Restored : Status → List ℕ → Option Progress → Type 0
+Restored u held (Some p) = (u.held ≡ length held) × (snapshot p ≡ told_with u held)
+Restored u held None = u.held ≡ length held → Counts (told_with u held) → ⊥
 
 -- the held bytes stay if no character was written
 abbrev pub kept_after : ℕ → List ℕ → List ℕ

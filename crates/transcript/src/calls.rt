@@ -14,8 +14,8 @@ use conversion::Converter;
 // A transcript from a source set into a target set.
 #[derive(Drop)]
 pub struct Transcript<S: CharacterSet, T: CharacterSet> {
-    converter: Converter<S, T>,
-    progress: Progress,
+    pub(crate) converter: Converter<S, T>,
+    pub(crate) progress: Progress,
 }
 
 // A call, with its buffers.

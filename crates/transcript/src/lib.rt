@@ -3,8 +3,10 @@
 
 mod calls;
 mod progress;
+mod resume;
 
 pub use calls::{Call, Transcript};
+pub use progress::Progress;
 
 // How many bytes a sector, an output and a whole source may have.
 pub const LONGEST_SECTOR: usize = 4096;

@@ -9,9 +9,9 @@ use conversion::{Fault, Pause, Run};
 #[derive(Clone, Copy)]
 pub struct Progress {
     pub(crate) state: State,
-    taken: u64,
-    characters: u64,
-    written: u64,
+    pub(crate) taken: u64,
+    pub(crate) characters: u64,
+    pub(crate) written: u64,
     pub(crate) held: Front,
     ghost counted: { characters + length held ≤ taken },
     ghost limited: { taken ≤ 4294967296 },
@@ -24,7 +24,8 @@ impl Progress {
     ghost use Rattle.transcript.specs.Calls.{fresh, status_of, ClosedOn};
     ghost use Rattle.transcript.specs.Snapshots.{snapshot, kept_after, Limits, Possible, Settles};
 
-    pub(crate) fn fresh() -> Progress
+    // That of a transcript that is started.
+    pub fn fresh() -> Progress
         ensures { snapshot result ≡ fresh }
     {
         Progress {
@@ -36,7 +37,7 @@ impl Progress {
         }
     }
 
-    pub(crate) fn status(&self) -> Status
+    pub fn status(&self) -> Status
         ensures { result ≡ status_of (snapshot self.now) }
     {
         Status {

@@ -1,0 +1,78 @@
+// The calls on a record.
+ghost use Rattle.std.specs.Prelude.{◌≡◌, ◌≢◌, MatchResult};
+ghost use Rattle.pages.specs.declared.page.Form.{Form as ItsForm};
+ghost use Rattle.pages.specs.Forms.{form_number};
+ghost use Rattle.c_interface.specs.declared.refusal.CallRefusal.TheVariants.{UnknownForm};
+ghost use Rattle.c_interface.specs.Calls.{Opens, Starts, Offers, Closes, Tells};
+
+use crate::form_transcript::FormTranscript;
+use crate::record::{StatusRecord, TranscriptRecord};
+use crate::refusal::CallRefusal;
+use answers::Done;
+use pages::Form;
+use std::alloc::Global;
+use transcript::Progress;
+
+// The form with that number.
+fn form_of(number: u32) -> Result<Form, CallRefusal>
+    ensures { MatchResult result (λ f. number ≡ form_number f) (λ r. (r ≡ UnknownForm) × ((f : ItsForm) → number ≢ form_number f)) }
+{
+    let number = u8::try_from(number)?;
+    Ok(Form::try_from(number)?)
+}
+
+pub(crate) fn open(source: u32, target: u32, kept: &mut TranscriptRecord) -> Result<(), CallRefusal>
+    ensures { Opens source target kept.old kept.new result }
+{
+    let opened = FormTranscript {
+        source: form_of(source)?,
+        target: form_of(target)?,
+        progress: Progress::fresh(),
+    };
+    *kept = opened.record();
+    Ok(())
+}
+
+pub(crate) fn start(kept: &mut TranscriptRecord) -> Result<(), CallRefusal>
+    ensures { Starts kept.old kept.new result }
+{
+    let mut held = FormTranscript::of(kept).ok_or(CallRefusal::NoTranscript)?;
+    held.progress = Progress::fresh();
+    *kept = held.record();
+    Ok(())
+}
+
+pub(crate) fn offer(
+    heap: Global,
+    kept: &mut TranscriptRecord,
+    sector: &[u8],
+    output: &mut [u8],
+) -> Result<Done, CallRefusal>
+    ensures { Offers kept.old kept.new sector.now output.old output.new result }
+{
+    let mut held = FormTranscript::of(kept).ok_or(CallRefusal::NoTranscript)?;
+    let mut transcript = held.with_sets(heap)?;
+    let outcome = transcript.offer(sector, output);
+    held.progress = transcript.progress();
+    *kept = held.record();
+    Ok(outcome?)
+}
+
+pub(crate) fn close(heap: Global, kept: &mut TranscriptRecord) -> Result<(), CallRefusal>
+    ensures { Closes kept.old kept.new result }
+{
+    let mut held = FormTranscript::of(kept).ok_or(CallRefusal::NoTranscript)?;
+    let mut transcript = held.with_sets(heap)?;
+    let outcome = transcript.close();
+    held.progress = transcript.progress();
+    *kept = held.record();
+    Ok(outcome?)
+}
+
+pub(crate) fn status(kept: &TranscriptRecord, status: &mut StatusRecord) -> Result<(), CallRefusal>
+    ensures { Tells kept.now status.old status.new result }
+{
+    let held = FormTranscript::of(kept).ok_or(CallRefusal::NoTranscript)?;
+    *status = held.progress.status().into();
+    Ok(())
+}

@@ -1,0 +1,257 @@
+// The calls as a client makes them: what each refuses, and that a refused call changes nothing.
+use crate::{
+    StatusRecord, TranscriptRecord, finetalc_close, finetalc_offer, finetalc_open, finetalc_start,
+    finetalc_status,
+};
+use answers::Told;
+use std::test::*;
+
+const ISO6937: u32 = 1;
+
+const LATIN10: u32 = 4;
+
+const UTF8: u32 = 6;
+
+const BASIC: u32 = 7;
+
+fn alone(number: u8) -> Told {
+    Told {
+        number,
+        ..Told::default()
+    }
+}
+
+fn done(taken: usize, written: usize) -> Told {
+    Told {
+        taken,
+        written,
+        ..Told::default()
+    }
+}
+
+fn opened(source: u32, target: u32) -> TranscriptRecord {
+    let mut transcript = TranscriptRecord::default();
+    finetalc_open(source, target, &mut transcript, &mut Told::default());
+    transcript
+}
+
+#[test]
+fn a_pair_over_two_sectors(rt: HostRuntime) -> Result<(), Fail> {
+    let mut transcript = TranscriptRecord::default();
+    let mut status = StatusRecord::default();
+    let mut answer = Told::default();
+    let mut output = [0u8; 4];
+    assert!(rt; finetalc_open(ISO6937, UTF8, &mut transcript, &mut answer));
+    assert!(rt;
+        finetalc_offer(
+            rt.alloc(),
+            &mut transcript,
+            b"a\xC2",
+            &mut output,
+            &mut answer
+        )
+    );
+    assert_eq!(rt; answer, done(2, 1));
+    assert!(rt; finetalc_status(&transcript, &mut status, &mut answer));
+    assert!(rt; status.taken == 2 && status.characters == 1 && status.written == 1);
+    assert!(rt; status.held == 1 && status.state == 0);
+    assert!(rt; finetalc_offer(rt.alloc(), &mut transcript, b"e", &mut output, &mut answer));
+    assert_eq!(rt; answer, done(1, 2));
+    assert!(rt; output[0] == 0xC3 && output[1] == 0xA9 && output[2] == 0);
+    assert!(rt; finetalc_close(rt.alloc(), &mut transcript, &mut answer));
+    assert_eq!(rt; answer, done(0, 0));
+    assert!(rt; finetalc_status(&transcript, &mut status, &mut answer));
+    assert!(rt; status.taken == 3 && status.characters == 2 && status.written == 3);
+    assert!(rt; status.held == 0 && status.state == 2);
+    Ok(())
+}
+
+#[test]
+fn a_fault_stands_until_the_start(rt: HostRuntime) -> Result<(), Fail> {
+    let mut transcript = opened(ISO6937, LATIN10);
+    let mut answer = Told::default();
+    let mut output = [0u8; 8];
+    let fault = Told {
+        offset: 1,
+        taken: 1,
+        written: 1,
+        character: 0x15F,
+        ..alone(7)
+    };
+    assert!(rt;
+        !finetalc_offer(
+            rt.alloc(),
+            &mut transcript,
+            b"A\xCBs",
+            &mut output,
+            &mut answer
+        )
+    );
+    assert_eq!(rt; answer, fault);
+    assert_eq!(rt; transcript.status.fault, fault);
+    let standing = Told {
+        number: 4,
+        standing: 7,
+        ..fault
+    };
+    let faulted = transcript;
+    assert!(rt; !finetalc_offer(rt.alloc(), &mut transcript, b"A", &mut output, &mut answer));
+    assert_eq!(rt; answer, standing);
+    assert!(rt; !finetalc_close(rt.alloc(), &mut transcript, &mut answer));
+    assert_eq!(rt; answer, standing);
+    assert_eq!(rt; transcript, faulted);
+    assert!(rt; finetalc_start(&mut transcript, &mut answer));
+    assert_eq!(rt; transcript, opened(ISO6937, LATIN10));
+    Ok(())
+}
+
+#[test]
+fn bytes_held_at_the_close(rt: HostRuntime) -> Result<(), Fail> {
+    let mut transcript = opened(ISO6937, UTF8);
+    let mut answer = Told::default();
+    let mut output = [0u8; 8];
+    assert!(rt;
+        finetalc_offer(
+            rt.alloc(),
+            &mut transcript,
+            b"ab\xC2",
+            &mut output,
+            &mut answer
+        )
+    );
+    assert!(rt; !finetalc_close(rt.alloc(), &mut transcript, &mut answer));
+    let unfinished = Told {
+        offset: 2,
+        ..alone(9)
+    };
+    assert_eq!(rt; answer, unfinished);
+    assert!(rt; transcript.status.state == 1 && transcript.status.held == 1);
+    Ok(())
+}
+
+#[test]
+fn an_output_that_is_full(rt: HostRuntime) -> Result<(), Fail> {
+    let mut transcript = opened(ISO6937, UTF8);
+    let mut answer = Told::default();
+    let mut output = [0u8; 2];
+    assert!(rt;
+        !finetalc_offer(
+            rt.alloc(),
+            &mut transcript,
+            b"abc",
+            &mut output,
+            &mut answer
+        )
+    );
+    assert_eq!(rt;
+        answer,
+        Told {
+            taken: 2,
+            written: 2,
+            ..alone(8)
+        }
+    );
+    assert!(rt; finetalc_offer(rt.alloc(), &mut transcript, b"c", &mut output, &mut answer));
+    assert_eq!(rt; answer, done(1, 1));
+    Ok(())
+}
+
+#[test]
+fn no_form_of_that_number(rt: HostRuntime) -> Result<(), Fail> {
+    let mut transcript = opened(ISO6937, UTF8);
+    let mut answer = Told::default();
+    for (source, target) in [
+        (0, UTF8),
+        (8, UTF8),
+        (ISO6937, 0),
+        (257, UTF8),
+        (ISO6937, u32::MAX),
+    ] {
+        assert!(rt; !finetalc_open(source, target, &mut transcript, &mut answer));
+        assert_eq!(rt; answer, alone(20));
+        assert_eq!(rt; transcript, opened(ISO6937, UTF8));
+    }
+    Ok(())
+}
+
+// Each differs from an opened transcript in one number that no transcript can have there.
+#[test]
+fn numbers_of_no_transcript(rt: HostRuntime) -> Result<(), Fail> {
+    let fresh = opened(ISO6937, BASIC);
+    let status = fresh.status;
+    let wrong = [
+        TranscriptRecord::default(),
+        TranscriptRecord { source: 8, ..fresh },
+        TranscriptRecord { target: 0, ..fresh },
+        TranscriptRecord {
+            bytes: [0, 0, 0, 1],
+            ..fresh
+        },
+        TranscriptRecord {
+            status: StatusRecord { state: 3, ..status },
+            ..fresh
+        },
+        TranscriptRecord {
+            status: StatusRecord { state: 1, ..status },
+            ..fresh
+        },
+        TranscriptRecord {
+            status: StatusRecord {
+                fault: alone(6),
+                ..status
+            },
+            ..fresh
+        },
+        TranscriptRecord {
+            status: StatusRecord { held: 1, ..status },
+            ..fresh
+        },
+        TranscriptRecord {
+            status: StatusRecord {
+                characters: 1,
+                ..status
+            },
+            ..fresh
+        },
+        TranscriptRecord {
+            status: StatusRecord {
+                written: 1,
+                ..status
+            },
+            ..fresh
+        },
+        TranscriptRecord {
+            status: StatusRecord {
+                taken: 4_294_967_297,
+                ..status
+            },
+            ..fresh
+        },
+    ];
+    let mut answer = Told::default();
+    let mut output = [7u8; 2];
+    for kept in wrong {
+        let mut transcript = kept;
+        let mut told = StatusRecord::default();
+        assert!(rt; !finetalc_offer(rt.alloc(), &mut transcript, b"a", &mut output, &mut answer));
+        assert_eq!(rt; answer, alone(21));
+        assert!(rt; !finetalc_close(rt.alloc(), &mut transcript, &mut answer));
+        assert_eq!(rt; answer, alone(21));
+        assert!(rt; !finetalc_start(&mut transcript, &mut answer));
+        assert_eq!(rt; answer, alone(21));
+        assert!(rt; !finetalc_status(&transcript, &mut told, &mut answer));
+        assert_eq!(rt; answer, alone(21));
+        assert_eq!(rt; transcript, kept);
+        assert!(rt; told == StatusRecord::default() && output[0] == 7 && output[1] == 7);
+    }
+    assert!(rt;
+        finetalc_offer(
+            rt.alloc(),
+            &mut opened(ISO6937, BASIC),
+            b"a",
+            &mut output,
+            &mut answer
+        )
+    );
+    Ok(())
+}

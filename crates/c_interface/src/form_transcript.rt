@@ -1,0 +1,71 @@
+// A transcript between two forms of text, without its sets: what a record keeps.
+ghost use Rattle.std.specs.Prelude.{◌≡◌, ◌⊎◌, MatchOption, MatchResult};
+ghost use Rattle.charset.specs.Padding.{padded};
+ghost use Rattle.pages.specs.declared.page.Form.TheVariants.{Basic};
+ghost use Rattle.form_sets.specs.Forms.{form_set};
+ghost use Rattle.form_sets.specs.Chosen.{meaning_of};
+ghost use Rattle.transcript.specs.Snapshots.{snapshot};
+ghost use Rattle.c_interface.specs.Records.{record_of, Keeps, NoTranscript};
+
+use crate::record::{StatusRecord, TranscriptRecord};
+use charset::Front;
+use form_sets::FormSet;
+use pages::Form;
+use std::alloc::{AllocError, Global};
+use transcript::{Progress, Transcript};
+
+#[derive(Clone, Copy)]
+pub(crate) struct FormTranscript {
+    pub(crate) source: Form,
+    pub(crate) target: Form,
+    pub(crate) progress: Progress,
+}
+
+// The bytes of a front, with 0 behind them.
+fn places(front: Front) -> [u8; 4]
+    ensures { result ≡ padded front }
+{
+    let bytes = front.as_bytes();
+    let mut places = [0; 4];
+    places[..bytes.len()].copy_from_slice(bytes);
+    places
+}
+
+impl FormTranscript {
+    // The transcript that a record keeps.
+    pub(crate) fn of(kept: &TranscriptRecord) -> Option<FormTranscript>
+        ensures { MatchOption result (NoTranscript kept.now) (λ k. Keeps kept.now k.source k.target (snapshot k.progress)) }
+    {
+        let source = Form::try_from(kept.source).ok()?;
+        let target = Form::try_from(kept.target).ok()?;
+        let status = kept.status.status()?;
+        let held = Front::empty().followed_by(&kept.bytes[..status.held.min(4)]);
+        let progress = Progress::of(status, held)?;
+        (places(held) == kept.bytes).then_some(FormTranscript {
+            source,
+            target,
+            progress,
+        })
+    }
+
+    // The record that keeps it.
+    pub(crate) fn record(&self) -> TranscriptRecord
+        ensures { Keeps result self.now.source self.now.target (snapshot self.now.progress) }
+    {
+        TranscriptRecord {
+            status: StatusRecord::from(self.progress.status()),
+            source: self.source.into(),
+            target: self.target.into(),
+            bytes: places(self.progress.held()),
+        }
+    }
+
+    // The same with its sets.
+    pub(crate) fn with_sets(&self, heap: Global) -> Result<Transcript<FormSet, FormSet>, AllocError>
+        ensures { MatchResult result (λ t. (snapshot t.progress ≡ snapshot self.now.progress) × ((meaning_of t.converter.sets.source ≡ form_set self.now.source) × (meaning_of t.converter.sets.target ≡ form_set self.now.target))) (λ _. (self.now.source ≡ Basic) ⊎ (self.now.target ≡ Basic)) }
+    {
+        let source = FormSet::of(heap, self.source)?;
+        let target = FormSet::of(heap, self.target)?;
+        Ok(Transcript::resume(source, target, self.progress))
+    }
+}

@@ -1,0 +1,109 @@
+// A transcript between two forms of text, as numbers.
+ghost use Rattle.std.specs.Prelude.{◌≡◌, MatchOption};
+ghost use Rattle.charset.specs.Padding.{padded};
+ghost use Rattle.transcript.specs.Snapshots.{snapshot};
+ghost use Rattle.c_interface.specs.Records.{standing, state_number, status_record, record_of, Keeps, NoFault, NoState, NoStatus, NoTranscript, fault_told};
+
+use answers::{Done, FaultAt, State, Status, Told};
+use charset::{Front, SetRefusal};
+use conversion::Fault;
+use pages::Form;
+use transcript::Progress;
+
+// `finetalc_status`: what a transcript has come to since it was started.
+#[repr(C)]
+#[derive(Clone, Copy, PartialEq, Eq, Debug, Default)]
+pub struct StatusRecord {
+    // The fault that stands; all 0 where none does.
+    pub fault: Told,
+    pub taken: u64,
+    pub characters: u64,
+    pub written: u64,
+    // How many bytes are held.
+    pub held: usize,
+    // 0 where it is open, 1 faulted, 2 closed.
+    pub state: u32,
+}
+
+// `finetalc_transcript`: what it has come to, the numbers of its forms, and the bytes that are held, with 0 behind them.
+#[repr(C)]
+#[derive(Clone, Copy, PartialEq, Eq, Debug, Default)]
+pub struct TranscriptRecord {
+    pub status: StatusRecord,
+    pub source: u8,
+    pub target: u8,
+    pub bytes: [u8; 4],
+}
+
+// The fault with these numbers.
+fn fault_of(told: &Told) -> Option<FaultAt>
+    ensures { MatchOption result (NoFault told.now) (λ f. told.now ≡ fault_told f) }
+{
+    let fault = match told.number {
+        6 => Fault::Unread(SetRefusal {
+            cause: told.cause,
+            depth: told.depth,
+        }),
+        7 => Fault::Unwritten(told.character),
+        9 => Fault::Unfinished,
+        _ => return None,
+    };
+    let at = FaultAt {
+        fault,
+        offset: told.offset,
+        done: Done {
+            taken: told.taken,
+            written: told.written,
+        },
+    };
+    (Told::from(at) == *told).then_some(at)
+}
+
+impl From<Status> for StatusRecord {
+    ghost from_gives = { λ u r. r ≡ status_record u };
+
+    fn from(status: Status) -> StatusRecord {
+        let (state, fault) = match status.state {
+            State::Open => (0, Told::default()),
+            State::Faulted(at) => (1, Told::from(at)),
+            State::Closed => (2, Told::default()),
+        };
+        StatusRecord {
+            fault,
+            taken: status.taken,
+            characters: status.characters,
+            written: status.written,
+            held: status.held,
+            state,
+        }
+    }
+}
+
+impl StatusRecord {
+    // The state with this number and fault.
+    fn state(&self) -> Option<State>
+        ensures { MatchOption result (NoState self.now) (λ s. (self.now.state ≡ state_number s) × (self.now.fault ≡ standing s)) }
+    {
+        let unfaulted = self.fault == Told::default();
+        match self.state {
+            0 => unfaulted.then_some(State::Open),
+            1 => fault_of(&self.fault).map(State::Faulted),
+            2 => unfaulted.then_some(State::Closed),
+            _ => None,
+        }
+    }
+
+    // The status with these numbers.
+    pub(crate) fn status(&self) -> Option<Status>
+        ensures { MatchOption result (NoStatus self.now) (λ u. self.now ≡ status_record u) }
+    {
+        let state = self.state()?;
+        Some(Status {
+            taken: self.taken,
+            characters: self.characters,
+            written: self.written,
+            held: self.held,
+            state,
+        })
+    }
+}

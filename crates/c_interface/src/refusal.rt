@@ -1,0 +1,72 @@
+// Why a call of a C client does not succeed.
+ghost use Rattle.std.specs.Prelude.{◌≡◌};
+ghost use Rattle.answers.specs.Told.{alone};
+ghost use Rattle.c_interface.specs.declared.refusal.CallRefusal.TheVariants.{NoMemory, UnknownForm as UnknownFormNumber, Refused};
+ghost use Rattle.c_interface.specs.Refusals.{told};
+
+use answers::{Refusal, Told};
+use pages::UnknownForm;
+use std::alloc::AllocError;
+use std::num::TryFromIntError;
+
+#[derive(Clone, Copy, PartialEq, Eq, Debug)]
+pub enum CallRefusal {
+    // There is no memory for the list of a form.
+    NoMemory,
+    // No form has that number.
+    UnknownForm,
+    // The record's numbers are not those of a transcript.
+    NoTranscript,
+    // The transcript refuses.
+    Refused(Refusal),
+}
+
+impl CallRefusal {
+    // The refusal by its number and values.
+    pub fn told(&self) -> Told
+        ensures { result ≡ told self.now }
+    {
+        let number = match self {
+            CallRefusal::NoMemory => 0,
+            CallRefusal::UnknownForm => 20,
+            CallRefusal::NoTranscript => 21,
+            CallRefusal::Refused(refusal) => return refusal.told(),
+        };
+        Told {
+            number,
+            ..Told::default()
+        }
+    }
+}
+
+impl From<AllocError> for CallRefusal {
+    ghost from_gives = { λ _ r. r ≡ NoMemory };
+
+    fn from(_error: AllocError) -> CallRefusal {
+        CallRefusal::NoMemory
+    }
+}
+
+impl From<TryFromIntError> for CallRefusal {
+    ghost from_gives = { λ _ r. r ≡ UnknownFormNumber };
+
+    fn from(_error: TryFromIntError) -> CallRefusal {
+        CallRefusal::UnknownForm
+    }
+}
+
+impl From<UnknownForm> for CallRefusal {
+    ghost from_gives = { λ _ r. r ≡ UnknownFormNumber };
+
+    fn from(_error: UnknownForm) -> CallRefusal {
+        CallRefusal::UnknownForm
+    }
+}
+
+impl From<Refusal> for CallRefusal {
+    ghost from_gives = { λ q r. r ≡ Refused q };
+
+    fn from(refusal: Refusal) -> CallRefusal {
+        CallRefusal::Refused(refusal)
+    }
+}

@@ -1,0 +1,64 @@
+// Where a transcript is put down and taken up again.
+ghost use Rattle.std.specs.Prelude.{◌≡◌};
+ghost use Rattle.transcript.specs.Snapshots.{snapshot, Restored};
+
+use crate::LONGEST_SOURCE;
+use crate::calls::Transcript;
+use crate::progress::Progress;
+use answers::Status;
+use charset::{CharacterSet, Front};
+use conversion::Converter;
+
+impl Progress {
+    // The progress of which this status was told while these bytes were held; none where its counts go beyond those of every transcript.
+    pub fn of(status: Status, held: Front) -> Option<Progress>
+        ensures { Restored status held result }
+    {
+        let Status {
+            taken,
+            characters,
+            written,
+            state,
+            ..
+        } = status;
+        let bytes = held.len();
+        let counted = characters <= taken && bytes as u64 <= taken - characters;
+        if status.held != bytes || !counted || taken > LONGEST_SOURCE || written > 4 * characters {
+            return None;
+        }
+        Some(Progress {
+            state,
+            taken,
+            characters,
+            written,
+            held,
+        })
+    }
+
+    // The bytes that are held.
+    pub fn held(&self) -> Front
+        ensures { result ≡ (snapshot self.now).held }
+    {
+        self.held
+    }
+}
+
+impl<S: CharacterSet, T: CharacterSet> Transcript<S, T> {
+    // A transcript that goes on from where one came to.
+    pub fn resume(source: S, target: T, progress: Progress) -> Transcript<S, T>
+        ensures sets { (result.converter.sets.source ≡ source) × (result.converter.sets.target ≡ target) }
+        ensures resumes { snapshot result.progress ≡ snapshot progress }
+    {
+        Transcript {
+            converter: Converter::new(source, target),
+            progress,
+        }
+    }
+
+    // How far it has come, without the sets: enough to resume it.
+    pub fn progress(&self) -> Progress
+        ensures { snapshot result ≡ snapshot self.now.progress }
+    {
+        self.progress
+    }
+}

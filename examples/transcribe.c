@@ -1,0 +1,53 @@
+/* From one form of text into another, from standard input to standard output: transcribe SOURCE TARGET, each a number from 1 to 7. */
+#include "finetalc.h"
+
+#include <inttypes.h>
+#include <stdio.h>
+#include <stdlib.h>
+
+static uint8_t sector[FINETALC_LONGEST_SECTOR];
+static uint8_t output[1000]; /* any size from 4 bytes up will do */
+
+static int refused(const struct finetalc_answer *answer)
+{
+    fprintf(stderr, "transcribe: refused %u at offset %" PRIu64, answer->number, answer->offset);
+    if (answer->number == 6)
+        fprintf(stderr, ": cause %u, depth %u", answer->cause, answer->depth);
+    if (answer->number == 7)
+        fprintf(stderr, ": U+%04" PRIX32 " has no coding in the target", answer->character);
+    fputc('\n', stderr);
+    return EXIT_FAILURE;
+}
+
+int main(int count, char **words)
+{
+    struct finetalc_transcript transcript;
+    struct finetalc_answer answer;
+    size_t length;
+
+    if (count != 3) {
+        fputs("usage: transcribe SOURCE TARGET < TEXT > TEXT\n", stderr);
+        return EXIT_FAILURE;
+    }
+    if (!finetalc_open(strtoul(words[1], NULL, 10), strtoul(words[2], NULL, 10), &transcript, &answer))
+        return refused(&answer);
+    while ((length = fread(sector, 1, sizeof sector, stdin)) > 0) {
+        size_t taken = 0;
+        bool done;
+
+        do { /* the output may be too small for the whole sector: then the rest is offered again */
+            done = finetalc_offer(&transcript, sector + taken, length - taken, output, sizeof output, &answer);
+            fwrite(output, 1, answer.written, stdout);
+            taken += answer.taken;
+        } while (!done && answer.number == 8);
+        if (!done)
+            return refused(&answer);
+    }
+    if (!finetalc_close(&transcript, &answer))
+        return refused(&answer);
+    if (ferror(stdin) || fflush(stdout) != 0) {
+        perror("transcribe");
+        return EXIT_FAILURE;
+    }
+    return EXIT_SUCCESS;
+}
