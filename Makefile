@@ -1,4 +1,4 @@
-.PHONY: run test bench
+.PHONY: run test bench lib example
 
 # Proves and builds the programs, then transcribes the sample roll.
 run:
@@ -19,3 +19,14 @@ test:
 # Holds recode against the system's iconv. No part of the test.
 bench: run
 	@bench/bench.py
+
+# Proves and builds the library for clients in C, target/lib/libfinetalc.a and libfinetalc.so. No part of the test.
+lib:
+	@echo "proving and building libfinetalc (some minutes the first time) ..."
+	@tools/library
+
+# Builds the example clients and transcribes a line with each: in C, and in Python by ctypes.
+example: lib
+	@cc -std=c99 -pedantic -Wall -Wextra -Werror -O2 -Iinclude examples/transcribe.c target/lib/libfinetalc.a -o target/transcribe
+	@echo "in C:" && printf 'caf\302\145 na\310\151ve\n' | target/transcribe 1 6
+	@echo "in Python:" && printf 'caf\302\145 na\310\151ve\n' | examples/transcribe.py 1 6

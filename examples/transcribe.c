@@ -10,7 +10,9 @@ static uint8_t output[1000]; /* any size from 4 bytes up will do */
 
 static int refused(const struct finetalc_answer *answer)
 {
-    fprintf(stderr, "transcribe: refused %u at offset %" PRIu64, answer->number, answer->offset);
+    fprintf(stderr, "transcribe: refused %u", answer->number);
+    if (answer->number == 6 || answer->number == 7 || answer->number == 9)
+        fprintf(stderr, " at offset %" PRIu64, answer->offset);
     if (answer->number == 6)
         fprintf(stderr, ": cause %u, depth %u", answer->cause, answer->depth);
     if (answer->number == 7)
@@ -22,6 +24,7 @@ static int refused(const struct finetalc_answer *answer)
 int main(int count, char **words)
 {
     struct finetalc_transcript transcript;
+    struct finetalc_status status;
     struct finetalc_answer answer;
     size_t length;
 
@@ -49,5 +52,7 @@ int main(int count, char **words)
         perror("transcribe");
         return EXIT_FAILURE;
     }
+    finetalc_status(&transcript, &status, &answer);
+    fprintf(stderr, "%" PRIu64 " bytes, %" PRIu64 " characters\n", status.taken, status.characters);
     return EXIT_SUCCESS;
 }

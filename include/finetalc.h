@@ -4,7 +4,7 @@
  * copied or stored and gone on with later.
  *
  * Each call returns true where it succeeds. Where it returns false, answer->number says why, and docs/REFUSALS.md lists the numbers.
- * All pointers are to valid memory, and none is null, even where the length is 0. The sector and the output do not overlap.
+ * All pointers must be to valid memory, and none may be null, even where the length is 0. What one call is given must not overlap.
  * A record that is not as a call left it is refused with 21. */
 #ifndef FINETALC_H
 #define FINETALC_H
@@ -25,7 +25,7 @@ enum {
     FINETALC_ISO8859_16 = 4,           /* ISO/IEC 8859-16 */
     FINETALC_SAMI = 5,                 /* the Sami set */
     FINETALC_UTF8 = 6,                 /* UTF-8 */
-    FINETALC_BASIC = 7                 /* the 74 characters that every teletex terminal has, in ISO/IEC 6937 */
+    FINETALC_BASIC = 7                 /* the 74 characters that every list has, in ISO/IEC 6937 */
 };
 
 /* How many bytes a sector may have, and an output. */
@@ -48,11 +48,11 @@ enum { FINETALC_OPEN = 0, FINETALC_FAULTED = 1, FINETALC_CLOSED = 2 };
 /* What a transcript has come to since it was started. */
 struct finetalc_status {
     struct finetalc_answer fault; /* the fault that stands: its number is 6, 7 or 9; all 0 where none does */
-    uint64_t taken;        /* bytes */
+    uint64_t taken;               /* bytes */
     uint64_t characters;
-    uint64_t written;      /* bytes */
-    size_t held;           /* bytes taken that begin a character: up to 3 */
-    uint32_t state;        /* FINETALC_OPEN, .. */
+    uint64_t written; /* bytes */
+    size_t held;      /* bytes taken that begin a character: up to 3 */
+    uint32_t state;   /* FINETALC_OPEN, FINETALC_FAULTED or FINETALC_CLOSED */
 };
 
 /* A transcript. To be read and copied, but changed by the calls alone. */

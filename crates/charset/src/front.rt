@@ -8,7 +8,7 @@ use std::marker::Model;
 #[derive(Clone, Copy)]
 pub struct Front {
     bytes: [u8; 4],
-    len: usize,
+    len: u8,
 }
 
 // The places behind the bytes hold 0, so that the list tells all of a front.
@@ -63,7 +63,7 @@ impl Front {
             return None;
         }
         let mut bytes = self.bytes;
-        bytes[self.len] = byte;
+        bytes[usize::from(self.len)] = byte;
         Some(Front {
             bytes,
             len: self.len + 1,
@@ -74,12 +74,13 @@ impl Front {
     pub fn followed_by(self, more: &[u8]) -> Front
         ensures { result ≡ take 4 (self ++ more.now) }
     {
-        let len = (4 - self.len).min(more.len());
+        let start = usize::from(self.len);
+        let len = (4 - start).min(more.len());
         let mut bytes = self.bytes;
-        bytes[self.len..self.len + len].copy_from_slice(&more[..len]);
+        bytes[start..start + len].copy_from_slice(&more[..len]);
         Front {
             bytes,
-            len: self.len + len,
+            len: (start + len) as u8,
         }
     }
 
@@ -99,6 +100,6 @@ impl Front {
         ensures bytes { result.now ≡ self.now }
         ensures few { length result.now ≤ 4 }
     {
-        &self.bytes[0..self.len]
+        &self.bytes[0..usize::from(self.len)]
     }
 }

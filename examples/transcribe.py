@@ -1,0 +1,106 @@
+#!/usr/bin/env python3
+"""From one form of text into another, from standard input to standard output: transcribe.py SOURCE TARGET, each a number from 1 to 7.
+
+It calls target/lib/libfinetalc.so, which `make example` builds."""
+import ctypes
+import pathlib
+import sys
+from ctypes import byref, c_bool, c_size_t, c_uint8, c_uint32, c_uint64
+
+LIBRARY = ctypes.CDLL(str(pathlib.Path(__file__).resolve().parent.parent / "target/lib/libfinetalc.so"))
+LONGEST_SECTOR = 4096
+LONGEST_OUTPUT = 65536
+
+
+class Answer(ctypes.Structure):
+    """struct finetalc_answer"""
+
+    _fields_ = [
+        ("offset", c_uint64),
+        ("taken", c_size_t),
+        ("written", c_size_t),
+        ("character", c_uint32),
+        ("number", c_uint8),
+        ("standing", c_uint8),
+        ("cause", c_uint8),
+        ("depth", c_uint8),
+    ]
+
+
+class Status(ctypes.Structure):
+    """struct finetalc_status"""
+
+    _fields_ = [
+        ("fault", Answer),
+        ("taken", c_uint64),
+        ("characters", c_uint64),
+        ("written", c_uint64),
+        ("held", c_size_t),
+        ("state", c_uint32),
+    ]
+
+
+class Record(ctypes.Structure):
+    """struct finetalc_transcript"""
+
+    _fields_ = [("status", Status), ("source", c_uint8), ("target", c_uint8), ("bytes", c_uint8 * 4)]
+
+
+LIBRARY.finetalc_open.argtypes = [c_uint32, c_uint32, ctypes.POINTER(Record), ctypes.POINTER(Answer)]
+LIBRARY.finetalc_offer.argtypes = [ctypes.POINTER(Record), ctypes.c_char_p, c_size_t, ctypes.c_char_p, c_size_t, ctypes.POINTER(Answer)]
+LIBRARY.finetalc_close.argtypes = [ctypes.POINTER(Record), ctypes.POINTER(Answer)]
+for call in (LIBRARY.finetalc_open, LIBRARY.finetalc_offer, LIBRARY.finetalc_close):
+    call.restype = c_bool
+
+
+class Refused(Exception):
+    """A call was refused: `answer` says why."""
+
+    def __init__(self, answer):
+        place = f" at offset {answer.offset}" if answer.number in (6, 7, 9) else ""
+        super().__init__(f"refused {answer.number}{place}" + (f", cause {answer.cause}" if answer.cause else ""))
+        self.answer = answer
+
+
+class Transcript:
+    """A transcript from one form of text into another."""
+
+    def __init__(self, source, target):
+        self.record = Record()
+        self.answer = Answer()
+        self.output = ctypes.create_string_buffer(LONGEST_OUTPUT)
+        self.check(LIBRARY.finetalc_open(source, target, byref(self.record), byref(self.answer)))
+
+    def check(self, done):
+        if not done:
+            raise Refused(self.answer)
+
+    def offer(self, sector):
+        """The text of a sector of up to 4,096 bytes, which always fits into the output, and whether that is all of it: not at a fault."""
+        done = LIBRARY.finetalc_offer(byref(self.record), sector, len(sector), self.output, LONGEST_OUTPUT, byref(self.answer))
+        return self.output.raw[: self.answer.written], done
+
+    def close(self):
+        """Refused where a fault stands, or where the source ends in the middle of a character."""
+        self.check(LIBRARY.finetalc_close(byref(self.record), byref(self.answer)))
+
+
+def main(source, target):
+    transcript = Transcript(int(source), int(target))
+    while sector := sys.stdin.buffer.read(LONGEST_SECTOR):
+        text, done = transcript.offer(sector)
+        sys.stdout.buffer.write(text)
+        sys.stdout.buffer.flush()
+        transcript.check(done)
+    transcript.close()
+    status = transcript.record.status
+    print(f"{status.taken} bytes, {status.characters} characters", file=sys.stderr)
+
+
+if __name__ == "__main__":
+    if len(sys.argv) != 3:
+        sys.exit(__doc__)
+    try:
+        main(*sys.argv[1:])
+    except Refused as refusal:
+        sys.exit(f"transcribe.py: {refusal}")
