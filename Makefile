@@ -16,8 +16,8 @@ test:
 	@tools/vectors.py --check
 	@tools/gate
 
-# Holds recode against the system's iconv. No part of the test.
-bench: run
+# Holds recode and the C interface against the system's iconv. No part of the test.
+bench: run example
 	@bench/bench.py
 
 # Proves and builds the library for clients in C, target/lib/libfinetalc.a and libfinetalc.so. No part of the test.

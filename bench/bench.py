@@ -1,8 +1,9 @@
 #!/usr/bin/env python3
-"""Holds recode against the system's iconv on the same texts, and prints docs/PERFORMANCE.md: instructions per byte by callgrind, megabytes per
-second as the median of several runs, growth with the size, and peak memory. It stops where the two do not write the same bytes.
+"""Holds recode, and the example client of the C interface, against the system's iconv on the same texts, and prints docs/PERFORMANCE.md:
+instructions per byte by callgrind, megabytes per second as the median of several runs, growth with the size, and peak memory. It stops
+where they do not write the same bytes.
 
-    make bench                        builds recode, and prints
+    make bench                        builds the programs, and prints
     bench/bench.py > docs/PERFORMANCE.md
 """
 import os
@@ -17,17 +18,20 @@ import time
 
 from texts import text, with_parity
 
-RECODE = pathlib.Path(__file__).resolve().parent.parent / "target/bin/recode"
+TOP = pathlib.Path(__file__).resolve().parent.parent
+RECODE = TOP / "target/bin/recode"
+CLIENT = TOP / "target/transcribe"
 MIB = 1 << 20
 RUNS = 9
 NOTES = """
 A run of bytes that stand alone in both sets goes by a table of 256 that a transcript fills at its first sector of 256 bytes or more, which is what a text of
 1,024 bytes pays for. Two bytes that code an accented letter are looked up among those that were met before. In form 3 such a letter takes three bytes, and is
-read through its three layers each time. `recode` holds the whole text and what it writes in memory."""
+read through its three layers each time. `recode` holds the whole text and what it writes in memory. The C interface keeps nothing between calls, so it fills
+the table anew for each sector."""
 
 
 def run(words, source):
-    return subprocess.run(words, input=source, stdout=subprocess.PIPE, check=True).stdout
+    return subprocess.run(words, input=source, stdout=subprocess.PIPE, stderr=subprocess.DEVNULL, check=True).stdout
 
 
 def instructions(words, source):
@@ -47,7 +51,7 @@ def speed(words, file, size):
     for _ in range(RUNS):
         with open(file, "rb") as source:
             start = time.perf_counter()
-            subprocess.run(words, stdin=source, stdout=subprocess.DEVNULL, check=True)
+            subprocess.run(words, stdin=source, stdout=subprocess.DEVNULL, stderr=subprocess.DEVNULL, check=True)
             times.append(time.perf_counter() - start)
     return size / statistics.median(times) / 1e6
 
@@ -62,7 +66,7 @@ def peak(words, file):
 def machine():
     model = re.search(r"model name\s*: (.*)", pathlib.Path("/proc/cpuinfo").read_text())
     glibc = platform.libc_ver()[1]
-    kit = re.search(r"rattle-kit\S* logic \S+", (RECODE.parent.parent.parent / "README.md").read_text()).group()
+    kit = re.search(r"rattle-kit\S* logic \S+", (TOP / "README.md").read_text()).group()
     return f"{model.group(1) if model else platform.machine()}, {os.cpu_count()} processors, Linux {platform.release()}, glibc {glibc}, {kit}"
 
 
@@ -81,22 +85,24 @@ def main():
     ]
     print("# Performance\n")
     print("`recode` beside glibc's `iconv`, each as its users run it: a text of 1 MiB from a file to nowhere. `recode` goes through a transcript in sectors of 4,096 bytes.")
+    print("So does `examples/transcribe.c`, the client of the [C interface](C-INTERFACE.md).")
     print("Made by `make bench`; no test of the gate is timed.\n")
     print(f"Machine: {machine()}.\n")
     print("Instructions per byte are those of callgrind, without what an empty text takes; MB/s the median of %d runs.\n" % RUNS)
-    print("| text | recode, instr/byte | iconv | ours / theirs | recode, MB/s | iconv | ours / theirs |")
-    print("|---|---|---|---|---|---|---|")
+    print("| text | recode, instr/byte | C client | iconv | recode / iconv | recode, MB/s | C client | iconv | recode / iconv |")
+    print("|---|---|---|---|---|---|---|---|---|")
     with tempfile.TemporaryDirectory() as room:
         for name, source, target, ours_text, theirs, theirs_text in rows:
             ours = [str(RECODE), source, target]
-            if ours_text is theirs_text and run(ours, ours_text) != run(theirs, theirs_text):
-                sys.exit(f"{name}: recode and iconv do not write the same")
+            client = [str(CLIENT), source, target]
+            if ours_text is theirs_text and run(ours, ours_text) != run(theirs, theirs_text) or run(client, ours_text) != run(ours, ours_text):
+                sys.exit(f"{name}: recode, the C client and iconv do not write the same")
             files = [pathlib.Path(room) / "ours", pathlib.Path(room) / "theirs"]
             files[0].write_bytes(ours_text)
             files[1].write_bytes(theirs_text)
-            a, b = per_byte(ours, ours_text), per_byte(theirs, theirs_text)
-            c, d = speed(ours, files[0], len(ours_text)), speed(theirs, files[1], len(theirs_text))
-            print(f"| {name} | {a:.1f} | {b:.1f} | {a / b:.2f} | {c:.0f} | {d:.0f} | {c / d:.2f} |", flush=True)
+            a, m, b = per_byte(ours, ours_text), per_byte(client, ours_text), per_byte(theirs, theirs_text)
+            c, n, d = speed(ours, files[0], len(ours_text)), speed(client, files[0], len(ours_text)), speed(theirs, files[1], len(theirs_text))
+            print(f"| {name} | {a:.1f} | {m:.1f} | {b:.1f} | {a / b:.2f} | {c:.0f} | {n:.0f} | {d:.0f} | {c / d:.2f} |", flush=True)
         print("\nHow the cost grows, on the first text:\n")
         print("| bytes | recode, instr/byte | iconv | recode, peak KiB | iconv |")
         print("|---|---|---|---|---|")

@@ -6,7 +6,7 @@
 #include <stdlib.h>
 
 static uint8_t sector[FINETALC_LONGEST_SECTOR];
-static uint8_t output[1000]; /* any size from 4 bytes up will do */
+static uint8_t output[FINETALC_LONGEST_SECTOR]; /* any size from 4 bytes up will do */
 
 static int refused(const struct finetalc_answer *answer)
 {
