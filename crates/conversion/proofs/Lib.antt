@@ -3,4 +3,4 @@ pub mod Leading
 pub mod Turns
 pub mod Once
 pub mod PlainBytes
-pub mod PairsMet
+pub mod CodingsMet

@@ -4,5 +4,5 @@ pub mod Steps
 pub mod Runs
 pub mod Becomes
 pub mod Plain
-pub mod Pairs
+pub mod Met
 pub mod Transcribed

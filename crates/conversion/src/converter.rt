@@ -1,20 +1,20 @@
 // From one character set into another.
 ghost use Rattle.std.specs.Prelude.{◌≡◌, ◌++◌};
 ghost use Rattle.charset.specs.Sets.{set_of};
-ghost use Rattle.conversion.specs.Pairs.{Right};
+ghost use Rattle.conversion.specs.Met.{Right};
 ghost use Rattle.conversion.specs.Runs.{Runs};
 
 use crate::Run;
-use crate::pairs::Pairs;
+use crate::met::MetCodings;
 use crate::two_sets::TwoSets;
 use charset::{CharacterSet, Front};
 
-// The two sets, and the pairs of source bytes that were met.
+// The two sets, and the codings that were met.
 #[derive(Drop)]
 pub struct Converter<S: CharacterSet, T: CharacterSet> {
     sets: TwoSets<S, T>,
-    pairs: Pairs,
-    ghost right: { Right (set_of S.CharacterSet sets.source) (set_of T.CharacterSet sets.target) pairs.kept },
+    met: MetCodings,
+    ghost right: { Right (set_of S.CharacterSet sets.source) (set_of T.CharacterSet sets.target) met },
 }
 
 impl<S: CharacterSet, T: CharacterSet> Converter<S, T> {
@@ -23,7 +23,7 @@ impl<S: CharacterSet, T: CharacterSet> Converter<S, T> {
     {
         Converter {
             sets: TwoSets::new(source, target),
-            pairs: Pairs::none(),
+            met: MetCodings::empty(),
         }
     }
 
@@ -33,6 +33,6 @@ impl<S: CharacterSet, T: CharacterSet> Converter<S, T> {
         ensures runs { Runs (set_of S.CharacterSet self.old.sets.source) (set_of T.CharacterSet self.old.sets.target) (held ++ sector.now) output.old output.new result }
     {
         self.sets.prepare(sector.len());
-        self.sets.run(&mut self.pairs, held, sector, output)
+        self.sets.run(&mut self.met, held, sector, output)
     }
 }

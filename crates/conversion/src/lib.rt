@@ -7,7 +7,7 @@ ghost use Rattle.conversion.specs.declared.Fault.TheVariants.{Unread};
 ghost use Rattle.conversion.specs.Next.{ComesNext};
 
 mod converter;
-mod pairs;
+mod met;
 mod two_sets;
 
 use charset::{CharacterSet, Coding, Reading, SetRefusal};

@@ -2,12 +2,12 @@
 ghost use Rattle.std.specs.Prelude.{◌≡◌, ◌≤◌, ◌++◌, length, drop, Some};
 ghost use Rattle.charset.specs.Sets.{set_of};
 ghost use Rattle.conversion.specs.Next.{ComesNext};
-ghost use Rattle.conversion.specs.Pairs.{Right};
+ghost use Rattle.conversion.specs.Met.{Right};
 ghost use Rattle.conversion.specs.Plain.{only_byte, plain, AllKnown, Known};
 ghost use Rattle.conversion.specs.Runs.{Far, Runs};
 ghost use Rattle.conversion.specs.Steps.{Steps};
 
-use crate::pairs::Pairs;
+use crate::met::MetCodings;
 use crate::{Fault, Pause, Run, Step, next_coding};
 use charset::{CharacterSet, Coding, Front};
 
@@ -108,32 +108,35 @@ impl<S: CharacterSet, T: CharacterSet> TwoSets<S, T> {
         self.copy_plain(&sector[at - behind..], output)
     }
 
-    // What comes next in the input: from the pairs that were met, where it is one of them.
-    fn next(&self, pairs: &mut Pairs, input: &[u8]) -> Result<Option<(Coding, usize)>, Fault>
-        requires { Right (set_of S.CharacterSet self.now.source) (set_of T.CharacterSet self.now.target) pairs.old.kept }
-        ensures right { Right (set_of S.CharacterSet self.now.source) (set_of T.CharacterSet self.now.target) pairs.new.kept }
+    // What comes next in the input: from the codings that were met, where it is one of them.
+    fn next(&self, met: &mut MetCodings, input: &[u8]) -> Result<Option<(Coding, usize)>, Fault>
+        requires { Right (set_of S.CharacterSet self.now.source) (set_of T.CharacterSet self.now.target) met.old }
+        ensures right { Right (set_of S.CharacterSet self.now.source) (set_of T.CharacterSet self.now.target) met.new }
         ensures next { ComesNext (set_of S.CharacterSet self.now.source) (set_of T.CharacterSet self.now.target) input.now result }
     {
-        let [first, second, ..] = *input else {
-            return next_coding(&self.source, &self.target, input);
+        if let Some(found) = met.find(input) {
+            return Ok(Some(found));
+        }
+        let Some(found) = next_coding(&self.source, &self.target, input)? else {
+            return Ok(None);
         };
-        if let Some(coding) = pairs.find(first, second) {
-            return Ok(Some((coding, 2)));
-        }
-        let next = next_coding(&self.source, &self.target, input);
-        if let Ok(Some((coding, 2))) = next {
-            pairs.keep(first, second, coding);
-        }
-        next
+        let (coding, length) = found;
+        met.keep(input, length, coding);
+        Ok(Some(found))
     }
 
     // The character in front of the input into the front of the output.
-    fn convert_one(&self, pairs: &mut Pairs, input: &[u8], output: &mut [u8]) -> Result<Step, Fault>
-        requires { Right (set_of S.CharacterSet self.now.source) (set_of T.CharacterSet self.now.target) pairs.old.kept }
-        ensures right { Right (set_of S.CharacterSet self.now.source) (set_of T.CharacterSet self.now.target) pairs.new.kept }
+    fn convert_one(
+        &self,
+        met: &mut MetCodings,
+        input: &[u8],
+        output: &mut [u8],
+    ) -> Result<Step, Fault>
+        requires { Right (set_of S.CharacterSet self.now.source) (set_of T.CharacterSet self.now.target) met.old }
+        ensures right { Right (set_of S.CharacterSet self.now.source) (set_of T.CharacterSet self.now.target) met.new }
         ensures steps { Steps (set_of S.CharacterSet self.now.source) (set_of T.CharacterSet self.now.target) input.now output.old output.new result }
     {
-        let Some((coding, length)) = self.next(pairs, input)? else {
+        let Some((coding, length)) = self.next(met, input)? else {
             return Ok(Step::Paused(Pause::Open));
         };
         let bytes = coding.as_bytes();
@@ -151,23 +154,23 @@ impl<S: CharacterSet, T: CharacterSet> TwoSets<S, T> {
     // The character that stands there. As long as it begins among the held bytes it is read from a copy of the four bytes there, which decide it.
     fn one_at(
         &self,
-        pairs: &mut Pairs,
+        met: &mut MetCodings,
         held: Front,
         sector: &[u8],
         at: usize,
         output: &mut [u8],
     ) -> Result<Step, Fault>
-        requires right { Right (set_of S.CharacterSet self.now.source) (set_of T.CharacterSet self.now.target) pairs.old.kept }
+        requires right { Right (set_of S.CharacterSet self.now.source) (set_of T.CharacterSet self.now.target) met.old }
         requires inside { at ≤ length (held ++ sector.now) }
-        ensures right { Right (set_of S.CharacterSet self.now.source) (set_of T.CharacterSet self.now.target) pairs.new.kept }
+        ensures right { Right (set_of S.CharacterSet self.now.source) (set_of T.CharacterSet self.now.target) met.new }
         ensures steps { Steps (set_of S.CharacterSet self.now.source) (set_of T.CharacterSet self.now.target) (drop at (held ++ sector.now)) output.old output.new result }
     {
         let bytes = held.as_bytes();
         if at < bytes.len() {
             let window = held.window(sector, at);
-            self.convert_one(pairs, window.as_bytes(), output)
+            self.convert_one(met, window.as_bytes(), output)
         } else {
-            self.convert_one(pairs, &sector[at - bytes.len()..], output)
+            self.convert_one(met, &sector[at - bytes.len()..], output)
         }
     }
 
@@ -175,13 +178,13 @@ impl<S: CharacterSet, T: CharacterSet> TwoSets<S, T> {
     // decides where the next character is read and written.
     pub(crate) fn run(
         &self,
-        pairs: &mut Pairs,
+        met: &mut MetCodings,
         held: Front,
         sector: &[u8],
         output: &mut [u8],
     ) -> Run
-        requires { Right (set_of S.CharacterSet self.now.source) (set_of T.CharacterSet self.now.target) pairs.old.kept }
-        ensures right { Right (set_of S.CharacterSet self.now.source) (set_of T.CharacterSet self.now.target) pairs.new.kept }
+        requires { Right (set_of S.CharacterSet self.now.source) (set_of T.CharacterSet self.now.target) met.old }
+        ensures right { Right (set_of S.CharacterSet self.now.source) (set_of T.CharacterSet self.now.target) met.new }
         ensures runs { Runs (set_of S.CharacterSet self.now.source) (set_of T.CharacterSet self.now.target) (held ++ sector.now) output.old output.new result }
     {
         prove!(held.len() <= 4);
@@ -196,7 +199,7 @@ impl<S: CharacterSet, T: CharacterSet> TwoSets<S, T> {
                 written += plain;
                 continue;
             }
-            match self.one_at(pairs, held, sector, read, &mut output[written..]) {
+            match self.one_at(met, held, sector, read, &mut output[written..]) {
                 Ok(
                     Step::Written {
                         read: more,

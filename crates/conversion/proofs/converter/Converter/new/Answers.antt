@@ -1,7 +1,5 @@
 use Rattle.charset.specs.Sets.{set_of}
-use Rattle.conversion.proofs.PairsMet.{none_right}
 use Rattle.conversion.proofs.converter.Converter.new.Goals as goal
 
 pub invariant_of-result : goal.invariant_of-result
-invariant_of-result g c =
-    record { right = none_right (set_of g.S.CharacterSet c.new.result.source) (set_of g.T.CharacterSet c.new.result.target) _ c.none.ensures }
+invariant_of-result g c = record { right = c.empty.ensures (set_of g.S.CharacterSet c.new.result.source) (set_of g.T.CharacterSet c.new.result.target) }

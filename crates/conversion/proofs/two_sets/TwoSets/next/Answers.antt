@@ -1,9 +1,12 @@
-use Rattle.std.proofs.Common.{sym, ◌∙◌}
+use Rattle.std.proofs.Common.{Ok, ap, subst, ◌∙◌}
 use Rattle.charset.specs.Sets.{set_of}
-use Rattle.conversion.proofs.PairsMet.{found_next}
+use Rattle.conversion.specs.Next.{ComesNext}
+use Rattle.conversion.proofs.CodingsMet.{next_becomes}
 use Rattle.conversion.proofs.two_sets.TwoSets.next.Goals as goal
 
-pub returns-in-Some-clause-next : goal.returns-in-Some-clause-next
-returns-in-Some-clause-next g c =
-    found_next (set_of g.S.CharacterSet c.args.self.now.source) (set_of g.T.CharacterSet c.args.self.now.target) c.args.pairs.now.kept c.requires c.args.input.now c.in-Some.coding c.in-len2-up.len_at_least
-    (sym c.find.ensures ∙ c.in-Some.is)
+pub returns-clause-right : goal.returns-clause-right
+returns-clause-right g c =
+    let s = set_of g.S.CharacterSet c.args.self.now.source in
+    let t = set_of g.T.CharacterSet c.args.self.now.target in
+    c.keep.ensures s t c.requires
+    (next_becomes s t c.args.input.now c.in-Some-2.found.0 c.in-Some-2.found.1 (subst (ComesNext s t c.args.input.now) (c.in_ok-found.was ∙ ap Ok c.in-Some-2.is) c.next_coding.ensures))

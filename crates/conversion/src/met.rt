@@ -1,0 +1,99 @@
+// Codings of two and of three bytes, with the coding that each becomes, kept as they are met.
+ghost use Rattle.std.specs.Prelude.{◌≡◌, ℕ, ◌≤◌, ◌+◌, ◌*◌, ◌%◌, List, length, take, Some, None, replicate, slice_set};
+ghost use Rattle.charset.specs.Meaning.{Meaning};
+ghost use Rattle.conversion.specs.Becomes.{becomes};
+ghost use Rattle.conversion.specs.Met.{found_in, Right, FoundNext};
+
+use charset::Coding;
+
+#[derive(Clone, Copy)]
+struct Met<const N: usize> {
+    bytes: [u8; N],
+    coding: Coding,
+}
+
+// A place for each coding, which it shares with others: the last one that was met stands there.
+#[derive(Clone, Copy)]
+struct Places<const N: usize> {
+    kept: [Option<Met<N>>; 256],
+}
+
+impl<const N: usize> Places<N> {
+    fn empty() -> Places<N>
+        ensures { result.kept ≡ replicate 256 None }
+    {
+        Places { kept: [None; 256] }
+    }
+
+    // What a coding becomes, if it is kept at that place.
+    fn find(&self, place: u8, bytes: [u8; N]) -> Option<Coding>
+        ensures { result ≡ found_in self.now.kept place bytes.entry }
+    {
+        let met = self.kept[usize::from(place)]?;
+        (met.bytes == bytes).then_some(met.coding)
+    }
+
+    fn keep(&mut self, place: u8, bytes: [u8; N], coding: Coding)
+        ensures { self.new.kept ≡ slice_set self.old.kept place (Some (record { bytes = bytes.entry; coding = coding })) }
+    {
+        self.kept[usize::from(place)] = Some(Met { bytes, coding });
+    }
+}
+
+// The place of a coding that ends in these bytes.
+fn place(first: u8, second: u8) -> u8
+    ensures { result ≡ (first % 8) * 32 + second % 32 }
+{
+    first % 8 * 32 + second % 32
+}
+
+#[derive(Clone, Copy)]
+pub(crate) struct MetCodings {
+    pairs: Places<2>,
+    triples: Places<3>,
+}
+
+impl MetCodings {
+    pub(crate) fn empty() -> MetCodings
+        ensures { (S T : Meaning) → Right S T result }
+    {
+        MetCodings {
+            pairs: Places::empty(),
+            triples: Places::empty(),
+        }
+    }
+
+    // What the coding in front of the input becomes, and how many bytes it has, if it is kept.
+    pub(crate) fn find(&self, input: &[u8]) -> Option<(Coding, usize)>
+        ensures { (S T : Meaning) → Right S T self.now → FoundNext S T input.now result }
+    {
+        let [first, second, ..] = *input else {
+            return None;
+        };
+        if let Some(coding) = self.pairs.find(place(first, second), [first, second]) {
+            return Some((coding, 2));
+        }
+        let [_, _, third, ..] = *input else {
+            return None;
+        };
+        let coding = self
+            .triples
+            .find(place(second, third), [first, second, third])?;
+        Some((coding, 3))
+    }
+
+    // Keeps what so many bytes in front of the input become.
+    pub(crate) fn keep(&mut self, input: &[u8], length: usize, coding: Coding)
+        ensures { (S T : Meaning) → Right S T self.old → becomes S T (take length input.now) ≡ Some coding → Right S T self.new }
+    {
+        match (length, input) {
+            (2, [first, second, ..]) => self
+                .pairs
+                .keep(place(*first, *second), [*first, *second], coding),
+            (3, [first, second, third, ..]) => self
+                .triples
+                .keep(place(*second, *third), [*first, *second, *third], coding),
+            _ => {}
+        }
+    }
+}
