@@ -32,9 +32,11 @@ module _ (r : TranscriptRecord) (u : Status) (e : r.status ≡ status_record u) 
   no_progress h b n =
       let held = b ∙ held_first in
       n (ap (λ z. z.held) same ∙ sym (ap length held)) (record {
-        a_byte_each = rw (held, ap (λ z. z.characters) same, ap (λ z. z.taken) same) k.counts.a_byte_each;
+        read_least = rw (held, ap (λ z. z.characters) same, ap (λ z. z.taken) same) k.counts.read_least;
+        read_most = rw (held, ap (λ z. z.characters) same, ap (λ z. z.taken) same) k.counts.read_most;
+        written_least = rw (ap (λ z. z.written) same, ap (λ z. z.characters) same) k.counts.written_least;
+        written_most = rw (ap (λ z. z.written) same, ap (λ z. z.characters) same) k.counts.written_most;
         limit = rw (ap (λ z. z.taken) same) k.counts.limit;
-        four_bytes_each = rw (ap (λ z. z.written) same, ap (λ z. z.characters) same) k.counts.four_bytes_each;
       })
 
   pub same_places : (h : List ℕ) → h ≡ first_places u r → padded h ≡ r.bytes
@@ -47,7 +49,7 @@ module _ (r : TranscriptRecord) (f g : Form) (p : Progress) (u : Status) (h : Li
   pub keeps : r.source ≡ form_number f → r.target ≡ form_number g → padded h ≡ r.bytes → length h ≤ 4 → Keeps r f g (snapshot p)
   keeps a b w few = record {
     numbers = subst (λ s. r ≡ record_of f g s) (sym come) (λ i. record { status = (e ∙ ap status_record same_status) i; source = a i; target = b i; bytes = sym w i });
-    counts = record { a_byte_each = p.counted; limit = p.limited; four_bytes_each = p.sized };
+    counts = record { read_least = p.read_least; read_most = p.read_most; written_least = p.written_least; written_most = p.written_most; limit = p.limited };
     few = rw (ap (λ s. s.held) come) few;
   }
 

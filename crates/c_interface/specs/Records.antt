@@ -1,6 +1,7 @@
 -- A transcript between two forms of text, as numbers. Assumes nothing.
-use Rattle.std.specs.Prelude.{◌≡◌, ℕ, ◌≤◌, List, length, ◌≢◌}
+use Rattle.std.specs.Prelude.{◌≡◌, ℕ, ◌≤◌, length, ◌≢◌}
 use Rattle.charset.specs.Padding.{padded}
+use Rattle.answers.specs.declared.Done.{Done}
 use Rattle.answers.specs.declared.FaultAt.{FaultAt}
 use Rattle.answers.specs.declared.State.{State}
 use Rattle.answers.specs.declared.State.TheVariants.{Open, Faulted, Closed}
@@ -14,9 +15,12 @@ use Rattle.transcript.specs.Snapshots.{Counts}
 use Rattle.c_interface.specs.declared.record.StatusRecord.{StatusRecord}
 use Rattle.c_interface.specs.declared.record.TranscriptRecord.{TranscriptRecord}
 
--- a fault by its number and values
+-- a fault by its number and values, and what the offer that met it took and wrote, whatever the number
+abbrev pub with_done : Told → Done → Told
+with_done t d = record { offset = t.offset; taken = d.taken; written = d.written; character = t.character; number = t.number; standing = t.standing; cause = t.cause; depth = t.depth }
+
 abbrev pub fault_told : FaultAt → Told
-fault_told f = with_fault (fault_number f.fault) 0 f.fault f.offset f.done
+fault_told f = with_done (with_fault (fault_number f.fault) 0 f.fault f.offset f.done) f.done
 
 abbrev pub state_number : State → ℕ
 state_number Open = 0
@@ -53,3 +57,7 @@ NoStatus r = (u : Status) → r ≢ status_record u
 
 abbrev pub NoTranscript : TranscriptRecord → Type 0
 NoTranscript r = (f g : Form) (s : Snapshot) → Keeps r f g s → ⊥
+
+-- it keeps one transcript and no other
+abbrev pub OneTranscript : TranscriptRecord → Type 0
+OneTranscript r = (f g f' g' : Form) (s s' : Snapshot) → Keeps r f g s → Keeps r f' g' s' → (f ≡ f') × (g ≡ g') × (s ≡ s')

@@ -36,9 +36,9 @@ pub(crate) fn open(source: u32, target: u32, kept: &mut TranscriptRecord) -> Res
 pub(crate) fn start(kept: &mut TranscriptRecord) -> Result<(), CallRefusal>
     ensures { Starts kept.old kept.new result }
 {
-    let mut held = FormTranscript::of(kept).ok_or(CallRefusal::NoTranscript)?;
-    held.progress = Progress::fresh();
-    *kept = held.record();
+    let mut resumed = FormTranscript::of(kept).ok_or(CallRefusal::NoTranscript)?;
+    resumed.progress = Progress::fresh();
+    *kept = resumed.record();
     Ok(())
 }
 
@@ -50,29 +50,29 @@ pub(crate) fn offer(
 ) -> Result<Done, CallRefusal>
     ensures { Offers kept.old kept.new sector.now output.old output.new result }
 {
-    let mut held = FormTranscript::of(kept).ok_or(CallRefusal::NoTranscript)?;
-    let mut transcript = held.with_sets(heap)?;
+    let mut resumed = FormTranscript::of(kept).ok_or(CallRefusal::NoTranscript)?;
+    let mut transcript = resumed.with_sets(heap)?;
     let outcome = transcript.offer(sector, output);
-    held.progress = transcript.progress();
-    *kept = held.record();
+    resumed.progress = transcript.progress();
+    *kept = resumed.record();
     Ok(outcome?)
 }
 
 pub(crate) fn close(heap: Global, kept: &mut TranscriptRecord) -> Result<(), CallRefusal>
     ensures { Closes kept.old kept.new result }
 {
-    let mut held = FormTranscript::of(kept).ok_or(CallRefusal::NoTranscript)?;
-    let mut transcript = held.with_sets(heap)?;
+    let mut resumed = FormTranscript::of(kept).ok_or(CallRefusal::NoTranscript)?;
+    let mut transcript = resumed.with_sets(heap)?;
     let outcome = transcript.close();
-    held.progress = transcript.progress();
-    *kept = held.record();
+    resumed.progress = transcript.progress();
+    *kept = resumed.record();
     Ok(outcome?)
 }
 
 pub(crate) fn status(kept: &TranscriptRecord, status: &mut StatusRecord) -> Result<(), CallRefusal>
     ensures { Tells kept.now status.old status.new result }
 {
-    let held = FormTranscript::of(kept).ok_or(CallRefusal::NoTranscript)?;
-    *status = held.progress.status().into();
+    let resumed = FormTranscript::of(kept).ok_or(CallRefusal::NoTranscript)?;
+    *status = resumed.progress.status().into();
     Ok(())
 }

@@ -174,7 +174,7 @@ fn no_form_of_that_number(rt: HostRuntime) -> Result<(), Fail> {
     Ok(())
 }
 
-// Each differs from an opened transcript in one number that no transcript can have there.
+// None is the record of a transcript, though each is nearly that of an opened one.
 #[test]
 fn numbers_of_no_transcript(rt: HostRuntime) -> Result<(), Fail> {
     let fresh = opened(ISO6937, BASIC);

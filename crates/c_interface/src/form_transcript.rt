@@ -5,7 +5,7 @@ ghost use Rattle.pages.specs.declared.page.Form.TheVariants.{Basic};
 ghost use Rattle.form_sets.specs.Forms.{form_set};
 ghost use Rattle.form_sets.specs.Chosen.{meaning_of};
 ghost use Rattle.transcript.specs.Snapshots.{snapshot};
-ghost use Rattle.c_interface.specs.Records.{record_of, Keeps, NoTranscript};
+ghost use Rattle.c_interface.specs.Records.{Keeps, NoTranscript};
 
 use crate::record::{StatusRecord, TranscriptRecord};
 use charset::Front;

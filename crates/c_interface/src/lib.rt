@@ -6,6 +6,8 @@ ghost use Rattle.std.specs.Prelude.{◌≡◌, Result};
 ghost use Rattle.answers.specs.declared.Done.{Done as ItsDone};
 ghost use Rattle.law.specs.Stacks.{TheLaw};
 ghost use Rattle.c_interface.specs.declared.refusal.CallRefusal.{CallRefusal as ItsRefusal};
+ghost use Rattle.c_interface.specs.declared.record.TranscriptRecord.{TranscriptRecord as ItsRecord};
+ghost use Rattle.c_interface.specs.Records.{OneTranscript};
 ghost use Rattle.c_interface.specs.Calls.{Answers, with_nothing, Opens, Starts, Offers, Closes, Tells};
 
 mod calls;
@@ -80,6 +82,7 @@ pub extern "C" fn finetalc_offer(
     answer: &mut Told,
 ) -> bool
     ensures offers { (r : Result ItsDone ItsRefusal) × Offers transcript.old transcript.new sector.now output.old output.new r × Answers r answer.new result }
+    ensures one_transcript { (kept : ItsRecord) → OneTranscript kept }
     ensures the_law { TheLaw }
 {
     tell(calls::offer(heap, transcript, sector, output), answer)

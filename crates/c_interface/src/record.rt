@@ -1,16 +1,12 @@
 // A transcript between two forms of text, as numbers.
 ghost use Rattle.std.specs.Prelude.{◌≡◌, MatchOption};
-ghost use Rattle.charset.specs.Padding.{padded};
-ghost use Rattle.transcript.specs.Snapshots.{snapshot};
-ghost use Rattle.c_interface.specs.Records.{standing, state_number, status_record, record_of, Keeps, NoFault, NoState, NoStatus, NoTranscript, fault_told};
+ghost use Rattle.c_interface.specs.Records.{fault_told, standing, state_number, status_record, NoFault, NoState, NoStatus};
 
 use answers::{Done, FaultAt, State, Status, Told};
-use charset::{Front, SetRefusal};
+use charset::SetRefusal;
 use conversion::Fault;
-use pages::Form;
-use transcript::Progress;
 
-// `finetalc_status`: what a transcript has come to since it was started.
+// `finetalc_progress`: what a transcript has come to since it was started.
 #[repr(C)]
 #[derive(Clone, Copy, PartialEq, Eq, Debug, Default)]
 pub struct StatusRecord {
@@ -35,6 +31,17 @@ pub struct TranscriptRecord {
     pub bytes: [u8; 4],
 }
 
+// A fault by its number and all its values.
+fn fault_record(at: FaultAt) -> Told
+    ensures { result ≡ fault_told at }
+{
+    Told {
+        taken: at.done.taken,
+        written: at.done.written,
+        ..Told::from(at)
+    }
+}
+
 // The fault with these numbers.
 fn fault_of(told: &Told) -> Option<FaultAt>
     ensures { MatchOption result (NoFault told.now) (λ f. told.now ≡ fault_told f) }
@@ -56,7 +63,7 @@ fn fault_of(told: &Told) -> Option<FaultAt>
             written: told.written,
         },
     };
-    (Told::from(at) == *told).then_some(at)
+    (fault_record(at) == *told).then_some(at)
 }
 
 impl From<Status> for StatusRecord {
@@ -65,7 +72,7 @@ impl From<Status> for StatusRecord {
     fn from(status: Status) -> StatusRecord {
         let (state, fault) = match status.state {
             State::Open => (0, Told::default()),
-            State::Faulted(at) => (1, Told::from(at)),
+            State::Faulted(at) => (1, fault_record(at)),
             State::Closed => (2, Told::default()),
         };
         StatusRecord {

@@ -36,8 +36,9 @@ module _ (S T : Meaning) (l : Laws S) (k : Laws T) (s : Snapshot) (sector out af
       record {
         within = omega arith;
         one_byte_each = omega (arith, from.0);
-        none_read = λ z. omega (arith, from.1);
-        four_bytes_each = rw (w, c) into.1;
+        four_bytes_each = omega (arith, from.1);
+        one_written_each = omega (arith, into.0);
+        four_written_each = omega (arith, into.1);
         opening = λ o. rw rest_is (opening_short run.end o h.reaches.rest (length h.target) (length out) h.reaches.stops);
         limit = grind (arith, nat_tests);
       }

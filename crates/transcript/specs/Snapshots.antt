@@ -10,11 +10,13 @@ use Rattle.transcript.specs.Calls.{Snapshot, OfferAnswer, limits, takes, holds, 
 abbrev pub snapshot : Progress → Snapshot
 snapshot k = record { state = k.state; taken = k.taken; characters = k.characters; written = k.written; held = k.held }
 
--- the counts of every transcript keep these limits
+-- the counts of every transcript keep these bounds: a character has one to four bytes, in the source and in the target
 pub record Counts (s : Snapshot) : Type 0 where
-  pub a_byte_each : s.characters + length s.held ≤ s.taken
+  pub read_least : s.characters + length s.held ≤ s.taken
+  pub read_most : s.taken ≤ 4 * s.characters + length s.held
+  pub written_least : s.characters ≤ s.written
+  pub written_most : s.written ≤ 4 * s.characters
   pub limit : s.taken ≤ 4294967296
-  pub four_bytes_each : s.written ≤ 4 * s.characters
 
 -- the snapshot of which a status was told while these bytes were held
 abbrev pub told_with : Status → List ℕ → Snapshot
@@ -38,8 +40,9 @@ Limits taken sector out (Err q) = limits taken sector out ≡ Some q
 pub record Possible (s : Snapshot) (sector : List ℕ) (run : Run) : Type 0 where
   pub within : run.read ≤ length s.held + length sector
   pub one_byte_each : run.characters ≤ run.read
-  pub none_read : run.characters ≡ 0 → run.read ≡ 0
-  pub four_bytes_each : run.written ≤ 4 * run.characters
+  pub four_bytes_each : run.read ≤ 4 * run.characters
+  pub one_written_each : run.characters ≤ run.written
+  pub four_written_each : run.written ≤ 4 * run.characters
   pub opening : run.end ≡ Ok pause.Open → length (drop run.read (s.held ++ sector)) ≤ 3
   pub limit : s.taken + length sector ≤ 4294967296
 

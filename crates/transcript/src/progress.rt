@@ -13,9 +13,11 @@ pub struct Progress {
     pub(crate) characters: u64,
     pub(crate) written: u64,
     pub(crate) held: Front,
-    ghost counted: { characters + length held ≤ taken },
+    ghost read_least: { characters + length held ≤ taken },
+    ghost read_most: { taken ≤ 4 * characters + length held },
+    ghost written_least: { characters ≤ written },
+    ghost written_most: { written ≤ 4 * characters },
     ghost limited: { taken ≤ 4294967296 },
-    ghost sized: { written ≤ 4 * characters },
 }
 
 impl Progress {

@@ -10,7 +10,8 @@ use charset::{CharacterSet, Front};
 use conversion::Converter;
 
 impl Progress {
-    // The progress of which this status was told while these bytes were held; none where its counts go beyond those of every transcript.
+    // The progress of which this status was told while these bytes were held; none where its counts break the bounds of every transcript, or
+    // it tells of another number of bytes held.
     pub fn of(status: Status, held: Front) -> Option<Progress>
         ensures { Restored status held result }
     {
@@ -21,9 +22,16 @@ impl Progress {
             state,
             ..
         } = status;
-        let bytes = held.len();
-        let counted = characters <= taken && bytes as u64 <= taken - characters;
-        if status.held != bytes || !counted || taken > LONGEST_SOURCE || written > 4 * characters {
+        let bytes = held.len() as u64;
+        // A character has one to four bytes, in the source and in the target.
+        let counted = status.held == held.len()
+            && bytes <= taken
+            && taken <= LONGEST_SOURCE
+            && characters <= taken - bytes
+            && taken - bytes <= 4 * characters
+            && characters <= written
+            && written <= 4 * characters;
+        if !counted {
             return None;
         }
         Some(Progress {
