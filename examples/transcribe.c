@@ -21,10 +21,16 @@ static int refused(const struct finetalc_answer *answer)
     return EXIT_FAILURE;
 }
 
+/* The form that a word gives by its number; 0, which is none, if it gives none. */
+static uint32_t form(const char *word)
+{
+    return word[0] >= '1' && word[0] <= '7' && word[1] == '\0' ? (uint32_t)(word[0] - '0') : 0;
+}
+
 int main(int count, char **words)
 {
     struct finetalc_transcript transcript;
-    struct finetalc_status status;
+    struct finetalc_progress progress;
     struct finetalc_answer answer;
     size_t length;
 
@@ -32,7 +38,7 @@ int main(int count, char **words)
         fputs("usage: transcribe SOURCE TARGET < TEXT > TEXT\n", stderr);
         return EXIT_FAILURE;
     }
-    if (!finetalc_open(strtoul(words[1], NULL, 10), strtoul(words[2], NULL, 10), &transcript, &answer))
+    if (!finetalc_open(form(words[1]), form(words[2]), &transcript, &answer))
         return refused(&answer);
     while ((length = fread(sector, 1, sizeof sector, stdin)) > 0) {
         size_t taken = 0;
@@ -48,11 +54,11 @@ int main(int count, char **words)
     }
     if (!finetalc_close(&transcript, &answer))
         return refused(&answer);
-    if (ferror(stdin) || fflush(stdout) != 0) {
+    if (ferror(stdin) || fflush(stdout) != 0 || ferror(stdout)) {
         perror("transcribe");
         return EXIT_FAILURE;
     }
-    finetalc_status(&transcript, &status, &answer);
-    fprintf(stderr, "%" PRIu64 " bytes, %" PRIu64 " characters\n", status.taken, status.characters);
+    finetalc_status(&transcript, &progress, &answer);
+    fprintf(stderr, "%" PRIu64 " bytes, %" PRIu64 " characters\n", progress.taken, progress.characters);
     return EXIT_SUCCESS;
 }

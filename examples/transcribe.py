@@ -8,6 +8,7 @@ import sys
 from ctypes import byref, c_bool, c_size_t, c_uint8, c_uint32, c_uint64
 
 LIBRARY = ctypes.CDLL(str(pathlib.Path(__file__).resolve().parent.parent / "target/lib/libfinetalc.so"))
+FORMS = range(1, 8)
 LONGEST_SECTOR = 4096
 LONGEST_OUTPUT = 65536
 
@@ -27,8 +28,8 @@ class Answer(ctypes.Structure):
     ]
 
 
-class Status(ctypes.Structure):
-    """struct finetalc_status"""
+class Progress(ctypes.Structure):
+    """struct finetalc_progress"""
 
     _fields_ = [
         ("fault", Answer),
@@ -43,7 +44,7 @@ class Status(ctypes.Structure):
 class Record(ctypes.Structure):
     """struct finetalc_transcript"""
 
-    _fields_ = [("status", Status), ("source", c_uint8), ("target", c_uint8), ("bytes", c_uint8 * 4)]
+    _fields_ = [("progress", Progress), ("source", c_uint8), ("target", c_uint8), ("held_bytes", c_uint8 * 4)]
 
 
 LIBRARY.finetalc_open.argtypes = [c_uint32, c_uint32, ctypes.POINTER(Record), ctypes.POINTER(Answer)]
@@ -66,6 +67,8 @@ class Transcript:
     """A transcript from one form of text into another."""
 
     def __init__(self, source, target):
+        if source not in FORMS or target not in FORMS:
+            raise ValueError("a form is a number from 1 to 7")
         self.record = Record()
         self.answer = Answer()
         self.output = ctypes.create_string_buffer(LONGEST_OUTPUT)
@@ -78,7 +81,8 @@ class Transcript:
     def offer(self, sector):
         """The text of a sector of up to 4,096 bytes, which always fits into the output, and whether that is all of it: not at a fault."""
         done = LIBRARY.finetalc_offer(byref(self.record), sector, len(sector), self.output, LONGEST_OUTPUT, byref(self.answer))
-        return self.output.raw[: self.answer.written], done
+        written = 0 if self.answer.number == 4 else self.answer.written
+        return self.output.raw[:written], done
 
     def close(self):
         """Refused where a fault stands, or where the source ends in the middle of a character."""
@@ -93,8 +97,8 @@ def main(source, target):
         sys.stdout.buffer.flush()
         transcript.check(done)
     transcript.close()
-    status = transcript.record.status
-    print(f"{status.taken} bytes, {status.characters} characters", file=sys.stderr)
+    progress = transcript.record.progress
+    print(f"{progress.taken} bytes, {progress.characters} characters", file=sys.stderr)
 
 
 if __name__ == "__main__":
@@ -102,5 +106,5 @@ if __name__ == "__main__":
         sys.exit(__doc__)
     try:
         main(*sys.argv[1:])
-    except Refused as refusal:
-        sys.exit(f"transcribe.py: {refusal}")
+    except (Refused, ValueError) as error:
+        sys.exit(f"transcribe.py: {error}")
