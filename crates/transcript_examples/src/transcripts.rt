@@ -4,7 +4,7 @@ use charset::SetRefusal;
 use conversion::Fault;
 use sets::{Iso6937, SingleByte, Utf8};
 use std::test::*;
-use transcript::Transcript;
+use transcript::{Progress, Transcript};
 
 fn done(taken: usize, written: usize) -> Done {
     Done { taken, written }
@@ -42,6 +42,28 @@ fn a_pair_over_two_sectors(rt: HostRuntime) -> Result<(), Fail> {
     assert!(rt; output[0] == 0xE9 && output[1] == 0);
     assert_eq!(rt; transcript.close(), Ok(()));
     assert_eq!(rt; transcript.status(), status(2, 1, 1, 0, State::Closed));
+    Ok(())
+}
+
+#[test]
+fn put_down_and_taken_up(rt: HostRuntime) -> Result<(), Fail> {
+    let mut first = Transcript::new(Iso6937, Utf8);
+    let mut output = [0u8; 2];
+    assert_eq!(rt; first.offer(b"a\xC2", &mut output), Ok(done(2, 1)));
+    let progress = first.progress();
+    let mut second = Transcript::resume(Iso6937, Utf8, progress);
+    assert_eq!(rt; second.status(), status(2, 1, 1, 1, State::Open));
+    assert_eq!(rt; second.offer(b"e", &mut output), Ok(done(1, 2)));
+    assert!(rt; output[0] == 0xC3 && output[1] == 0xA9);
+    assert_eq!(rt; second.status(), status(3, 2, 3, 0, State::Open));
+    // From what was told and held; and where the counts cannot be those of a transcript.
+    let held = progress.held();
+    assert!(rt; Progress::of(status(2, 1, 1, 1, State::Open), held).is_some());
+    assert!(rt; Progress::of(status(2, 1, 1, 0, State::Open), held).is_none());
+    assert!(rt; Progress::of(status(2, 2, 2, 1, State::Open), held).is_none());
+    assert!(rt; Progress::of(status(6, 1, 1, 1, State::Open), held).is_none());
+    assert!(rt; Progress::of(status(2, 1, 0, 1, State::Open), held).is_none());
+    assert!(rt; Progress::of(status(2, 1, 5, 1, State::Open), held).is_none());
     Ok(())
 }
 
