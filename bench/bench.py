@@ -24,8 +24,8 @@ CLIENT = TOP / "target/transcribe"
 MIB = 1 << 20
 RUNS = 9
 NOTES = """
-A run of bytes that stand alone in both sets goes by a table of 256 that a transcript fills at its first sector of 256 bytes or more, which is what a text of
-1,024 bytes pays for. Two bytes that code an accented letter, or three, are looked up among those that were met before. `recode` holds the whole text and what
+A run of bytes that stand alone in both sets goes by a table of 256 that a transcript fills at its first sector of 256 bytes or more, which is what the
+text of 1,023 bytes pays for. Two bytes that code an accented letter, or three, are looked up among those that were met before. `recode` holds the whole text and what
 it writes in memory. The C interface keeps nothing between calls, so it fills the table anew for each sector, and meets each coding anew.
 Callgrind counts each step of an instruction that fills or copies memory, of which the C client has more."""
 
@@ -86,7 +86,7 @@ def main():
     print("# Performance\n")
     print("`recode` beside glibc's `iconv`, each as its users run it: a text of 1 MiB from a file to nowhere. `recode` goes through a transcript in sectors of 4,096 bytes.")
     print("So does `examples/transcribe.c`, the client of the [C interface](C-INTERFACE.md).")
-    print("Made by `make bench`; no test of the gate is timed.\n")
+    print("Made by `make bench`; `make test` times nothing.\n")
     print(f"Machine: {machine()}.\n")
     print("Instructions per byte are those of callgrind, without what an empty text takes; MB/s the median of %d runs.\n" % RUNS)
     print("| text | recode, instr/byte | C client | iconv | recode / iconv | recode, MB/s | C client | iconv | recode / iconv |")

@@ -85,7 +85,7 @@ class Transcript:
         return self.output.raw[:written], done
 
     def close(self):
-        """Refused where a fault stands, or where the source ends in the middle of a character."""
+        """Refused where a fault stands, or where the source ends in bytes that wait for more."""
         self.check(LIBRARY.finetalc_close(byref(self.record), byref(self.answer)))
 
 

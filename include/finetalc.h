@@ -76,7 +76,7 @@ bool finetalc_start(struct finetalc_transcript *transcript, struct finetalc_answ
 bool finetalc_offer(struct finetalc_transcript *transcript, const uint8_t *sector, size_t sector_length,
                     uint8_t *output, size_t output_length, struct finetalc_answer *answer);
 
-/* Ends it. Refused: 4, 5, 9 where the source ends in the middle of a character, 21, and 0 as above. */
+/* Ends it. Refused: 4, 5, 9 where the source ends in bytes that wait for more, 21, and 0 as above. */
 bool finetalc_close(struct finetalc_transcript *transcript, struct finetalc_answer *answer);
 
 /* Tells what it has come to, which also stands in transcript->progress. Refused: 21. */

@@ -26,7 +26,9 @@ fn refused(at: FaultAt) -> anyhow::Error {
     let Told { number, offset, .. } = Told::from(at);
     match at.fault {
         Fault::Unread(SetRefusal { cause, depth }) => {
-            anyhow!("refused {number} at offset {offset}: cause {cause}, depth {depth}")
+            anyhow!(
+                "refused {number} at offset {offset}: nothing can be read there, cause {cause}, depth {depth} (docs/REFUSALS.md lists the causes)"
+            )
         }
         Fault::Unwritten(character) => {
             anyhow!(
@@ -35,7 +37,7 @@ fn refused(at: FaultAt) -> anyhow::Error {
         }
         Fault::Unfinished => {
             anyhow!(
-                "refused {number} at offset {offset}: the text ends in the middle of a character"
+                "refused {number} at offset {offset}: the text ends in bytes that wait for more"
             )
         }
     }

@@ -2,7 +2,7 @@
 #![tactic(auto)]
 
 use anyhow::{Context, bail};
-use packing::{Builder, PackRefusal};
+use packing::Builder;
 use std::io::Write;
 use std::{env, fs};
 
@@ -16,11 +16,10 @@ fn pack(rt: &HostRuntime) -> anyhow::Result<()> {
     }
     let mut builder = Builder::new(rt.alloc());
     for pair in words.chunks(2) {
-        let form = pair[0]
-            .as_str()
-            .parse::<u8>()
-            .ok()
-            .context(PackRefusal::UnknownForm)?;
+        let form = pair[0].as_str().parse::<u8>().ok().context(format_args!(
+            "{}: a form is a number from 0 to 7",
+            pair[0].as_str()
+        ))?;
         let file = pair.get(1).context("the last form has no file")?;
         let page = fs::read(rt, file.as_str()).context(format_args!("cannot read {file}"))?;
         builder = builder
