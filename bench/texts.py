@@ -1,17 +1,17 @@
 """Texts to measure with, the same ones each time."""
 import random
 
-random.seed("texts to measure with")
+CHANCE = random.Random("letters and accents")
 
 
 def text(size, accent):
     """Letters and spaces, about one letter in eight with the accent before it, if there is one."""
     out = bytearray()
     while len(out) < size - 3:
-        if accent and random.random() < 0.125:
-            out += accent + bytes([random.choice(b"aeiou")])
+        if accent and CHANCE.random() < 0.125:
+            out += accent + bytes([CHANCE.choice(b"aeiou")])
         else:
-            out.append(random.choice(b"abcdefghijklmnopqrstuvwxyz "))
+            out.append(CHANCE.choice(b"abcdefghijklmnopqrstuvwxyz "))
     return bytes(out)
 
 
