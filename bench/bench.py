@@ -25,7 +25,7 @@ MIB = 1 << 20
 RUNS = 9
 NOTES = """
 A run of bytes that stand alone in both sets goes by a table of 256 that a transcript fills at its first sector of 256 bytes or more, which is what the
-text of 1,023 bytes pays for. Two bytes that code an accented letter, or three, are looked up among those that were met before. `recode` holds the whole text and what
+shortest text here pays for. Two bytes that code an accented letter, or three, are looked up among those that were met before. `recode` holds the whole text and what
 it writes in memory. The C interface keeps nothing between calls, so it fills the table anew for each sector, and meets each coding anew.
 Callgrind counts each step of an instruction that fills or copies memory, of which the C client has more."""
 

@@ -16,11 +16,11 @@ use Rattle.c_interface.specs.declared.record.StatusRecord.{StatusRecord}
 use Rattle.c_interface.specs.declared.record.TranscriptRecord.{TranscriptRecord}
 
 -- a fault by its number and values, and what the offer that met it took and wrote, whatever the number
-abbrev pub with_done : Told → Done → Told
-with_done t d = record { offset = t.offset; taken = d.taken; written = d.written; character = t.character; number = t.number; standing = t.standing; cause = t.cause; depth = t.depth }
+abbrev pub and_done : Told → Done → Told
+and_done t d = record { offset = t.offset; taken = d.taken; written = d.written; character = t.character; number = t.number; standing = t.standing; cause = t.cause; depth = t.depth }
 
 abbrev pub fault_told : FaultAt → Told
-fault_told f = with_done (with_fault (fault_number f.fault) 0 f.fault f.offset f.done) f.done
+fault_told f = and_done (with_fault (fault_number f.fault) 0 f.fault f.offset f.done) f.done
 
 abbrev pub state_number : State → ℕ
 state_number Open = 0
