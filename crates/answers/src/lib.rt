@@ -55,8 +55,9 @@ impl From<FaultAt> for Refusal {
     }
 }
 
-// A refusal by its number and its values, as the table of refusals lists them: numbers and no enum. A value that does not come with the number is 0.
-// `standing` is the number of the fault that stood already. Laid out as C does, since C clients are answered by it.
+// A refusal by its number and its values, as the table of refusals lists them: numbers and no enum.
+// A value that does not come with the number is 0. `standing` is the number of the fault that stood
+// already. Laid out as C does, since C clients are answered by it.
 #[repr(C)]
 #[derive(Clone, Copy, PartialEq, Eq, Debug, Default)]
 pub struct Told {

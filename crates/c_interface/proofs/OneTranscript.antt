@@ -1,4 +1,5 @@
--- A record keeps one transcript: its forms and what it has come to can be read back from the numbers. Assumes nothing.
+-- A record keeps one transcript: its forms and what it has come to can be read back from the
+-- numbers.
 use Rattle.std.proofs.Common.{◌≡◌, ℕ, ◌-◌, length, take, replicate, cond, ◌==◌, refl, sym, ap, ◌∙◌}
 use Rattle.std.proofs.Math.Seq.{take-append_seam}
 use Rattle.conversion.specs.declared.Fault.{Fault}
@@ -9,14 +10,18 @@ use Rattle.answers.specs.declared.State.{State}
 use Rattle.answers.specs.declared.State.TheVariants.{Open, Faulted, Closed}
 use Rattle.answers.specs.declared.Told.{Told}
 use Rattle.pages.specs.declared.page.Form.{Form}
-use Rattle.pages.specs.declared.page.Form.TheVariants.{EightBit, SevenBit, SevenBitParity, Latin10, Sami, Unicode, Basic}
+use Rattle.pages.specs.declared.page.Form.TheVariants.{EightBit, SevenBit, SevenBitParity, Latin10}
+use Rattle.pages.specs.declared.page.Form.TheVariants.{Sami, Unicode, Basic}
 use Rattle.pages.specs.Forms.{form_number}
 use Rattle.transcript.specs.Calls.{Snapshot}
 use Rattle.c_interface.specs.declared.record.TranscriptRecord.{TranscriptRecord}
 use Rattle.c_interface.specs.Records.{fault_told, state_number, standing, Keeps, OneTranscript}
 
 form_of : ℕ → Form
-form_of n = cond (n == 1) EightBit (cond (n == 2) SevenBit (cond (n == 3) SevenBitParity (cond (n == 4) Latin10 (cond (n == 5) Sami (cond (n == 6) Unicode Basic)))))
+form_of n =
+    cond (n == 1) EightBit
+    (cond (n == 2) SevenBit (cond (n == 3) SevenBitParity
+    (cond (n == 4) Latin10 (cond (n == 5) Sami (cond (n == 6) Unicode Basic)))))
 
 form_back : (f : Form) → form_of (form_number f) ≡ f
 unfolding form_of
@@ -29,12 +34,22 @@ form_back Unicode = refl
 form_back Basic = refl
 
 fault_of : Told → Fault
-fault_of t = cond (t.number == 6) (Unread (record { cause = t.cause; depth = t.depth })) (cond (t.number == 7) (Unwritten t.character) Unfinished)
+fault_of t =
+    cond (t.number == 6) (Unread (record { cause = t.cause; depth = t.depth }))
+    (cond (t.number == 7) (Unwritten t.character) Unfinished)
 
 fault_at : Told → FaultAt
-fault_at t = record { fault = fault_of t; offset = t.offset; done = record { taken = t.taken; written = t.written } }
+fault_at t =
+    record {
+      fault = fault_of t;
+      offset = t.offset;
+      done =
+          record { taken = t.taken; written = t.written };
+    }
 
-fault_back : (x : Fault) (o : ℕ) (d : Done) → fault_at (fault_told (record { fault = x; offset = o; done = d })) ≡ record { fault = x; offset = o; done = d }
+fault_back : (x : Fault) (o : ℕ) (d : Done)
+    → fault_at (fault_told (record { fault = x; offset = o; done = d })) ≡
+    record { fault = x; offset = o; done = d }
 unfolding fault_at fault_of
 fault_back (Unread q) o d = refl
 fault_back (Unwritten c) o d = refl
@@ -58,14 +73,26 @@ snapshot_of r = record {
   held = take r.status.held r.bytes;
 }
 
-snapshot_back : (r : TranscriptRecord) (f g : Form) (s : Snapshot) → Keeps r f g s → snapshot_of r ≡ s
+snapshot_back : (r : TranscriptRecord) (f g : Form) (s : Snapshot) → Keeps r f g s
+    → snapshot_of r ≡ s
 unfolding snapshot_of
 snapshot_back r f g s k =
-    ap snapshot_of k.numbers ∙ (λ i. record { state = state_back s.state i; taken = s.taken; characters = s.characters; written = s.written; held = take-append_seam s.held (replicate (4 - length s.held) 0) i })
+    ap snapshot_of k.numbers
+    ∙ (λ i. record {
+      state = state_back s.state i;
+      taken = s.taken;
+      characters =
+          s.characters;
+      written = s.written;
+      held =
+          take-append_seam s.held (replicate (4 - length s.held) 0) i;
+    })
 
 pub one_transcript : (r : TranscriptRecord) → OneTranscript r
 one_transcript r f g f' g' s s' k k' = (
-  sym (form_back f) ∙ ap form_of (sym (ap (λ z. z.source) k.numbers) ∙ ap (λ z. z.source) k'.numbers) ∙ form_back f',
-  sym (form_back g) ∙ ap form_of (sym (ap (λ z. z.target) k.numbers) ∙ ap (λ z. z.target) k'.numbers) ∙ form_back g',
+  sym (form_back f) ∙ ap form_of (sym (ap (λ z. z.source) k.numbers)
+      ∙ ap (λ z. z.source) k'.numbers) ∙ form_back f',
+  sym (form_back g) ∙ ap form_of (sym (ap (λ z. z.target) k.numbers)
+      ∙ ap (λ z. z.target) k'.numbers) ∙ form_back g',
   sym (snapshot_back r f g s k) ∙ snapshot_back r f' g' s' k',
 )

@@ -1,4 +1,4 @@
--- What each call of a C client does to the record, and what it answers. Assumes nothing.
+-- What each call of a C client does to the record, and what it answers.
 use Rattle.std.specs.Prelude.{◌≡◌, ℕ, ◌⊎◌, Bool, true, false, List, Ok, Err, Result, ◌≢◌}
 use Rattle.answers.specs.declared.Done.{Done}
 use Rattle.answers.specs.declared.Refusal.{Refusal}
@@ -13,7 +13,9 @@ use Rattle.transcript.specs.Uses.{Event, start, offer, close, Step}
 use Rattle.c_interface.specs.declared.record.StatusRecord.{StatusRecord}
 use Rattle.c_interface.specs.declared.record.TranscriptRecord.{TranscriptRecord}
 use Rattle.c_interface.specs.declared.refusal.CallRefusal.{CallRefusal}
-use Rattle.c_interface.specs.declared.refusal.CallRefusal.TheVariants.{NoMemory, UnknownForm, NoTranscript as NotOne, Refused}
+use Rattle.c_interface.specs.declared.refusal.CallRefusal.TheVariants.{NoMemory, UnknownForm}
+use Rattle.c_interface.specs.declared.refusal.CallRefusal.TheVariants.{NoTranscript as NotOne}
+use Rattle.c_interface.specs.declared.refusal.CallRefusal.TheVariants.{Refused}
 use Rattle.c_interface.specs.Refusals.{told}
 use Rattle.c_interface.specs.Records.{status_record, Keeps, NoTranscript}
 
@@ -50,7 +52,8 @@ pub record HasList (r : TranscriptRecord) : Type 0 where
   pub list : (source ≡ Basic) ⊎ (target ≡ Basic)
 
 -- a step, by the event of each answer of the transcript; or else nothing changes
-abbrev pub Makes : {A : Type 0} → (old new : TranscriptRecord) → (Result A Refusal → Event) → (unchanged : Type 0) → Result A CallRefusal → Type 0
+abbrev pub Makes : {A : Type 0} → (old new : TranscriptRecord) → (Result A Refusal → Event)
+    → (unchanged : Type 0) → Result A CallRefusal → Type 0
 Makes old new event unchanged (Ok a) = Steps old new (event (Ok a))
 Makes old new event unchanged (Err (Refused q)) = Steps old new (event (Err q))
 Makes old new event unchanged (Err NotOne) = NoTranscript old × (new ≡ old) × unchanged
@@ -60,13 +63,16 @@ Makes old new event unchanged (Err UnknownForm) = ⊥
 -- ---- the calls
 
 abbrev pub Opens : ℕ → ℕ → (old new : TranscriptRecord) → Result (Unit {0}) CallRefusal → Type 0
-Opens m n old new (Ok u) = (f : Form) × (g : Form) × (m ≡ form_number f) × (n ≡ form_number g) × Keeps new f g fresh
-Opens m n old new (Err UnknownForm) = ((f g : Form) → m ≡ form_number f → n ≢ form_number g) × (new ≡ old)
+Opens m n old new (Ok u) =
+    (f : Form) × (g : Form) × (m ≡ form_number f) × (n ≡ form_number g) × Keeps new f g fresh
+Opens m n old new (Err UnknownForm) =
+    ((f g : Form) → m ≡ form_number f → n ≢ form_number g) × (new ≡ old)
 Opens m n old new (Err NoMemory) = ⊥
 Opens m n old new (Err NotOne) = ⊥
 Opens m n old new (Err (Refused q)) = ⊥
 
-abbrev pub Offers : (old new : TranscriptRecord) → (sector out after : List ℕ) → Result Done CallRefusal → Type 0
+abbrev pub Offers : (old new : TranscriptRecord) → (sector out after : List ℕ)
+    → Result Done CallRefusal → Type 0
 Offers old new sector out after r = Makes old new (λ a. offer sector out a after) (after ≡ out) r
 
 abbrev pub Closes : (old new : TranscriptRecord) → Result (Unit {0}) CallRefusal → Type 0
@@ -81,8 +87,10 @@ Starts old new (Err UnknownForm) = ⊥
 Starts old new (Err (Refused q)) = ⊥
 
 -- what the transcript has come to, in numbers
-abbrev pub Tells : TranscriptRecord → (old new : StatusRecord) → Result (Unit {0}) CallRefusal → Type 0
-Tells r old new (Ok u) = (f : Form) × (g : Form) × (s : Snapshot) × Keeps r f g s × (new ≡ status_record (status_of s))
+abbrev pub Tells : TranscriptRecord → (old new : StatusRecord) → Result (Unit {0}) CallRefusal
+    → Type 0
+Tells r old new (Ok u) =
+    (f : Form) × (g : Form) × (s : Snapshot) × Keeps r f g s × (new ≡ status_record (status_of s))
 Tells r old new (Err NotOne) = NoTranscript r × (new ≡ old)
 Tells r old new (Err NoMemory) = ⊥
 Tells r old new (Err UnknownForm) = ⊥

@@ -1,4 +1,4 @@
--- A transcript between two forms of text, as numbers. Assumes nothing.
+-- A transcript between two forms of text, as numbers.
 use Rattle.std.specs.Prelude.{◌≡◌, ℕ, ◌≤◌, length, ◌≢◌}
 use Rattle.charset.specs.Padding.{padded}
 use Rattle.answers.specs.declared.Done.{Done}
@@ -15,9 +15,21 @@ use Rattle.transcript.specs.Snapshots.{Counts}
 use Rattle.c_interface.specs.declared.record.StatusRecord.{StatusRecord}
 use Rattle.c_interface.specs.declared.record.TranscriptRecord.{TranscriptRecord}
 
--- a fault by its number and values, and what the offer that met it took and wrote, whatever the number
+-- a fault by its number and values, and what the offer that met it took and wrote, whatever the
+-- number
 abbrev pub and_done : Told → Done → Told
-and_done t d = record { offset = t.offset; taken = d.taken; written = d.written; character = t.character; number = t.number; standing = t.standing; cause = t.cause; depth = t.depth }
+and_done t d =
+    record {
+      offset = t.offset;
+      taken = d.taken;
+      written = d.written;
+      character =
+          t.character;
+      number = t.number;
+      standing = t.standing;
+      cause = t.cause;
+      depth = t.depth;
+    }
 
 abbrev pub fault_told : FaultAt → Told
 fault_told f = and_done (with_fault (fault_number f.fault) 0 f.fault f.offset f.done) f.done
@@ -34,10 +46,26 @@ standing (Faulted f) = fault_told f
 standing Closed = alone 0
 
 abbrev pub status_record : Status → StatusRecord
-status_record u = record { fault = standing u.state; taken = u.taken; characters = u.characters; written = u.written; held = u.held; state = state_number u.state }
+status_record u =
+    record {
+      fault = standing u.state;
+      taken = u.taken;
+      characters = u.characters;
+      written =
+          u.written;
+      held = u.held;
+      state = state_number u.state;
+    }
 
 abbrev pub record_of : (source target : Form) → Snapshot → TranscriptRecord
-record_of f g s = record { status = status_record (status_of s); source = form_number f; target = form_number g; bytes = padded s.held }
+record_of f g s =
+    record {
+      status = status_record (status_of s);
+      source = form_number f;
+      target =
+          form_number g;
+      bytes = padded s.held;
+    }
 
 -- a record keeps a transcript between two forms that has come to that
 pub record Keeps (r : TranscriptRecord) (source target : Form) (s : Snapshot) : Type 0 where
@@ -60,4 +88,6 @@ NoTranscript r = (f g : Form) (s : Snapshot) → Keeps r f g s → ⊥
 
 -- it keeps one transcript and no other
 abbrev pub OneTranscript : TranscriptRecord → Type 0
-OneTranscript r = (f g f' g' : Form) (s s' : Snapshot) → Keeps r f g s → Keeps r f' g' s' → (f ≡ f') × (g ≡ g') × (s ≡ s')
+OneTranscript r =
+    (f g f' g' : Form) (s s' : Snapshot) → Keeps r f g s → Keeps r f' g' s'
+    → (f ≡ f') × (g ≡ g') × (s ≡ s')

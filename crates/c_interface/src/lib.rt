@@ -1,5 +1,6 @@
-// The library for clients in C: a transcript is a record of numbers that the client keeps. Each call reads the record, makes the call, and
-// writes what the transcript has come to back into the record. The library itself keeps nothing between calls.
+// The library for clients in C: a transcript is a record of numbers that the client keeps. Each
+// call reads the record, makes the call, and writes what the transcript has come to back into the
+// record. The library itself keeps nothing between calls.
 #![tactic(auto)]
 
 ghost use Rattle.std.specs.Prelude.{◌≡◌, Result};
@@ -8,7 +9,8 @@ ghost use Rattle.law.specs.Stacks.{TheLaw};
 ghost use Rattle.c_interface.specs.declared.refusal.CallRefusal.{CallRefusal as ItsRefusal};
 ghost use Rattle.c_interface.specs.declared.record.TranscriptRecord.{TranscriptRecord as ItsRecord};
 ghost use Rattle.c_interface.specs.Records.{OneTranscript};
-ghost use Rattle.c_interface.specs.Calls.{Answers, with_nothing, Opens, Starts, Offers, Closes, Tells};
+ghost use Rattle.c_interface.specs.Calls.{Answers, with_nothing, Opens, Starts, Offers, Closes};
+ghost use Rattle.c_interface.specs.Calls.{Tells};
 
 mod calls;
 mod examples;
@@ -71,7 +73,8 @@ pub extern "C" fn finetalc_start(transcript: &mut TranscriptRecord, answer: &mut
     tell_alone(calls::start(transcript), answer)
 }
 
-// Reads the held bytes and then the sector from the front, and writes each character behind the one before.
+// Reads the held bytes and then the sector from the front, and writes each character behind the one
+// before.
 #[unsafe(no_mangle)]
 #[tactic(auto, using(law::proofs::Whole::the_law))]
 pub extern "C" fn finetalc_offer(

@@ -1,6 +1,7 @@
 // A transcript between two forms of text, as numbers.
 ghost use Rattle.std.specs.Prelude.{◌≡◌, MatchOption};
-ghost use Rattle.c_interface.specs.Records.{fault_told, standing, state_number, status_record, NoFault, NoState, NoStatus};
+ghost use Rattle.c_interface.specs.Records.{fault_told, standing, state_number, status_record};
+ghost use Rattle.c_interface.specs.Records.{NoFault, NoState, NoStatus};
 
 use answers::{Done, FaultAt, State, Status, Told};
 use charset::SetRefusal;
@@ -21,7 +22,8 @@ pub struct StatusRecord {
     pub state: u32,
 }
 
-// `finetalc_transcript`: what it has come to, the numbers of its forms, and the bytes that are held, with 0 behind them.
+// `finetalc_transcript`: what it has come to, the numbers of its forms, and the bytes that are
+// held, with 0 behind them.
 #[repr(C)]
 #[derive(Clone, Copy, PartialEq, Eq, Debug, Default)]
 pub struct TranscriptRecord {

@@ -1,7 +1,9 @@
 // Why a call of a C client does not succeed.
 ghost use Rattle.std.specs.Prelude.{◌≡◌};
 ghost use Rattle.answers.specs.Told.{alone};
-ghost use Rattle.c_interface.specs.declared.refusal.CallRefusal.TheVariants.{NoMemory, UnknownForm as UnknownFormNumber, Refused};
+ghost use Rattle.c_interface.specs.declared.refusal.CallRefusal.TheVariants.{NoMemory};
+ghost use Rattle.c_interface.specs.declared.refusal.CallRefusal.TheVariants.{UnknownForm as UnknownFormNumber};
+ghost use Rattle.c_interface.specs.declared.refusal.CallRefusal.TheVariants.{Refused};
 ghost use Rattle.c_interface.specs.Refusals.{told};
 
 use answers::{Refusal, Told};

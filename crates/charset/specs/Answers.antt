@@ -1,5 +1,6 @@
--- What reading and writing answer. Assumes nothing.
-use Rattle.std.specs.Prelude.{◌≡◌, ℕ, zero, suc, ◌≤◌, cond, List, length, take, Some, None, Ok, Err, Option, Result}
+-- What reading and writing answer.
+use Rattle.std.specs.Prelude.{◌≡◌, ℕ, zero, suc, ◌≤◌, cond, List, length, take, Some, None, Ok, Err}
+use Rattle.std.specs.Prelude.{Option, Result}
 use Rattle.charset.specs.declared.SetRefusal.{SetRefusal}
 use Rattle.charset.specs.declared.Reading.{Reading}
 use Rattle.charset.specs.declared.Reading.TheVariants.{Found, Open}
@@ -27,7 +28,8 @@ found (Some c) n r = Ok (Found c n)
 abbrev pub unread : Meaning → List ℕ → Answer
 unread m s = cond (m.openings s) (Ok Open) (Err (m.causes s))
 
--- the same answer by a search: the shortest coding in front of at least n bytes and fewer than n + k, else what s is
+-- the same answer by a search: the shortest coding in front of at least n bytes and fewer than n +
+-- k, else what s is
 abbrev pub look : Meaning → List ℕ → ℕ → ℕ → Answer
 look m s n zero = unread m s
 look m s n (suc k) = found (m.codings.character (take n s)) n (look m s (suc n) k)

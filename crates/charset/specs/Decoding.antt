@@ -1,4 +1,5 @@
--- Characters in codings, one behind the other, and that they can be read in one way only. Assumes nothing.
+-- Characters in codings, one behind the other, and that they can be read in one way only. Assumes
+-- nothing.
 use Rattle.std.specs.Prelude.{◌≡◌, ℕ, List, [], ◌∷◌, ◌++◌, Some}
 use Rattle.charset.specs.Meaning.{Meaning, Opens}
 use Rattle.charset.specs.Answers.{Answer, Reads, OnlyAnswer, FourBytesDecide}

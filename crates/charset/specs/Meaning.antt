@@ -1,10 +1,12 @@
--- A character set by its meaning, and the laws of every set. Assumes nothing.
+-- A character set by its meaning, and the laws of every set.
 -- A string is a list of numbers; the laws say that those of codings and openings are bytes.
-use Rattle.std.specs.Prelude.{◌≡◌, ℕ, ◌<◌, ◌≤◌, Bool, true, false, List, [], length, take, Some, Option}
+use Rattle.std.specs.Prelude.{◌≡◌, ℕ, ◌<◌, ◌≤◌, Bool, true, false, List, [], length, take, Some}
+use Rattle.std.specs.Prelude.{Option}
 use Rattle.std.specs.List.{AllByRecursion}
 use Rattle.charset.specs.declared.SetRefusal.{SetRefusal}
 
--- the codings in both directions: the character that a whole string codes, and the string that codes a character
+-- the codings in both directions: the character that a whole string codes, and the string that
+-- codes a character
 pub record Codings : Type 0 where
   pub character : List ℕ → Option ℕ
   pub string : ℕ → Option (List ℕ)
@@ -54,5 +56,7 @@ pub record Laws (m : Meaning) : Type 0 where
   -- no opening begins with a coding
   pub opening_bare : (s : List ℕ) → Opens m s → NoFront m s
   -- a cause is two bytes, and a string has the cause of its shortest beginning that has one
-  pub cause_sized : (s : List ℕ) → Unreadable m s → ((m.causes s).cause < 256) × ((m.causes s).depth < 256)
-  pub cause_stays : (s : List ℕ) (n : ℕ) → Unreadable m (take n s) → m.causes s ≡ m.causes (take n s)
+  pub cause_sized : (s : List ℕ) → Unreadable m s
+      → ((m.causes s).cause < 256) × ((m.causes s).depth < 256)
+  pub cause_stays : (s : List ℕ) (n : ℕ) → Unreadable m (take n s)
+      → m.causes s ≡ m.causes (take n s)

@@ -1,4 +1,4 @@
--- A byte string in four places, with 0 behind it. Assumes nothing.
+-- A byte string in four places, with 0 behind it.
 use Rattle.std.specs.Prelude.{◌≡◌, ℕ, ◌-◌, ◌≤◌, List, ◌++◌, length, take, drop, replicate}
 use Rattle.std.proofs.Common.{arith, length-take-le, take-append-drop}
 

@@ -1,4 +1,4 @@
--- An implementation of a character set as its meaning. Assumes nothing.
+-- An implementation of a character set as its meaning.
 use Rattle.charset.specs.declared.CharacterSet.{Ghosts}
 use Rattle.charset.specs.Meaning.{Meaning, meaning}
 

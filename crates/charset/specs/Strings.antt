@@ -1,4 +1,4 @@
--- Strings of at most four bytes. Assumes nothing.
+-- Strings of at most four bytes.
 use Rattle.std.specs.Prelude.{ℕ, cond, List, [], ◌∷◌, ◌++◌, length, Some, None, Option, nat_lt}
 
 -- a string with one byte more, if it then has at most four

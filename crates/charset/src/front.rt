@@ -4,7 +4,8 @@ ghost use Rattle.charset.specs.Strings.{joined};
 
 use std::marker::Model;
 
-// In contracts a front is its list of bytes. Four places and a length: a front is copied and needs no memory, as a `Vec` would.
+// In contracts a front is its list of bytes. Four places and a length: a front is copied and needs
+// no memory, as a `Vec` would.
 #[derive(Clone, Copy)]
 pub struct Front {
     bytes: [u8; 4],

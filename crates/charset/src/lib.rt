@@ -1,5 +1,5 @@
-// What a character set is: its codings, openings and causes, the laws that every set keeps, and what reading and
-// writing answer.
+// What a character set is: its codings, openings and causes, the laws that every set keeps, and
+// what reading and writing answer.
 #![tactic(auto)]
 
 ghost use Rattle.std.specs.Prelude.{ℕ, Bool, List};
@@ -15,16 +15,17 @@ pub use by_laws::read_front;
 pub use coding::Coding;
 pub use front::Front;
 
-// Why a string cannot be read: the number of the cause, and how many layers lie above the one that refused. A number and no enum, since
-// any set may have causes of its own.
+// Why a string cannot be read: the number of the cause, and how many layers lie above the one that
+// refused. A number and no enum, since any set may have causes of its own.
 #[derive(Clone, Copy, PartialEq, Eq, Debug)]
 pub struct SetRefusal {
     pub cause: u8,
     pub depth: u8,
 }
 
-// What stands in front of a string: a character's coding of that length, or nothing yet, where the whole string is
-// an opening. No `Option`: that more bytes may complete a coding is said by `Open`, and would not be by `None`.
+// What stands in front of a string: a character's coding of that length, or nothing yet, where the
+// whole string is an opening. No `Option`: that more bytes may complete a coding is said by `Open`,
+// and would not be by `None`.
 #[derive(Clone, Copy, PartialEq, Eq, Debug)]
 pub enum Reading {
     Found { character: u32, length: usize },

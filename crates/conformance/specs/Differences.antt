@@ -1,5 +1,6 @@
--- When a difference is of a known kind. Assumes nothing.
-use Rattle.std.specs.Prelude.{◌≡◌, ℕ, ◌/◌, ◌≤◌, Bool, true, cond, ◌&&◌, ◌||◌, ◌⊎◌, ◌≢◌, nat_le, nat_lt, Some, None, Option}
+-- When a difference is of a known kind.
+use Rattle.std.specs.Prelude.{◌≡◌, ℕ, ◌/◌, ◌≤◌, Bool, true, cond, ◌&&◌, ◌||◌, ◌⊎◌, ◌≢◌, nat_le}
+use Rattle.std.specs.Prelude.{nat_lt, Some, None, Option}
 use Rattle.conformance.specs.declared.answer.Answer.{Answer}
 use Rattle.conformance.specs.declared.answer.Answer.TheVariants as answer
 use Rattle.conformance.specs.declared.known.Known.{Known}
@@ -44,13 +45,16 @@ abbrev pub IsStroke : Answer → Answer → Type 0
 IsStroke theirs ours = (theirs ≡ answer.Character 0xd0 1) × (ours ≡ answer.Character 0x110 1)
 
 abbrev pub IsSmallG : Answer → Answer → Type 0
-IsSmallG theirs ours = ((is_refusal theirs ≡ true) × (ours ≡ answer.Character 0x123 2)) ⊎ ((theirs ≡ answer.Character 0x123 2) × (ours ≡ answer.Refused 32))
+IsSmallG theirs ours =
+    ((is_refusal theirs ≡ true) × (ours ≡ answer.Character 0x123 2))
+    ⊎ ((theirs ≡ answer.Character 0x123 2) × (ours ≡ answer.Refused 32))
 
 abbrev pub ApartIn6937 : Answer → Answer → Option Known → Type 0
 ApartIn6937 theirs ours (Some known.Bar) = IsBar theirs ours
 ApartIn6937 theirs ours (Some known.Stroke) = IsStroke theirs ours
 ApartIn6937 theirs ours (Some known.SmallG) = IsSmallG theirs ours
-ApartIn6937 theirs ours None = (IsBar theirs ours → ⊥) × (IsStroke theirs ours → ⊥) × (IsSmallG theirs ours → ⊥)
+ApartIn6937 theirs ours None =
+    (IsBar theirs ours → ⊥) × (IsStroke theirs ours → ⊥) × (IsSmallG theirs ours → ⊥)
 ApartIn6937 theirs ours (Some known.Control) = ⊥
 ApartIn6937 theirs ours (Some known.Window) = ⊥
 ApartIn6937 theirs ours (Some known.Waits) = ⊥
@@ -61,7 +65,9 @@ abbrev pub Waits : Answer → Answer → Type 0
 Waits theirs ours = (theirs ≡ answer.Open) × (is_refusal ours ≡ true)
 
 abbrev pub ReadsBeyond : Set → Answer → Answer → (ℕ → Type 0) → Type 0
-ReadsBeyond s theirs ours Kind = (s ≢ set.Utf8) × ((c : ℕ) × (theirs ≡ answer.Character c 1) × (ours ≡ answer.Refused 31) × Kind c)
+ReadsBeyond s theirs ours Kind =
+    (s ≢ set.Utf8) × ((c : ℕ) × (theirs ≡ answer.Character c 1) × (ours ≡ answer.Refused 31)
+    × Kind c)
 
 abbrev pub ApartInReading : Set → ℕ → Answer → Answer → Option Known → Type 0
 ApartInReading s b theirs ours (Some known.Waits) = Waits theirs ours
@@ -71,7 +77,11 @@ ApartInReading s b theirs ours (Some known.Bar) = (s ≡ set.Iso6937) × IsBar t
 ApartInReading s b theirs ours (Some known.Stroke) = (s ≡ set.Iso6937) × IsStroke theirs ours
 ApartInReading s b theirs ours (Some known.SmallG) = (s ≡ set.Iso6937) × IsSmallG theirs ours
 ApartInReading s b theirs ours (Some known.Tags) = ⊥
-ApartInReading s b theirs ours None = (Waits theirs ours → ⊥) × (ReadsBeyond s theirs ours (λ c. IsControl c b) → ⊥) × (ReadsBeyond s theirs ours (λ c. IsWindow s c b) → ⊥) × (s ≡ set.Iso6937 → (IsBar theirs ours → ⊥) × (IsStroke theirs ours → ⊥) × (IsSmallG theirs ours → ⊥))
+ApartInReading s b theirs ours None =
+    (Waits theirs ours → ⊥) × (ReadsBeyond s theirs ours (λ c. IsControl c b) → ⊥)
+    × (ReadsBeyond s theirs ours (λ c. IsWindow s c b) → ⊥)
+    × (s ≡ set.Iso6937 → (IsBar theirs ours → ⊥) × (IsStroke theirs ours → ⊥)
+    × (IsSmallG theirs ours → ⊥))
 
 -- in writing n
 abbrev pub IsTag : Set → ℕ → Answer → Type 0
@@ -88,11 +98,15 @@ ApartInWriting s n theirs (Some known.Bar) = (s ≡ set.Iso6937) × ((n ≡ 0x20
 ApartInWriting s n theirs (Some known.Stroke) = (s ≡ set.Iso6937) × ((n ≡ 0xd0) ⊎ (n ≡ 0x110))
 ApartInWriting s n theirs (Some known.SmallG) = (s ≡ set.Iso6937) × (n ≡ 0x123)
 ApartInWriting s n theirs (Some known.Waits) = ⊥
-ApartInWriting s n theirs None = (IsTag s n theirs → ⊥) × (WritesBeyond s theirs (λ b. IsControl n b) → ⊥) × (WritesBeyond s theirs (λ b. IsWindow s n b) → ⊥) × (s ≡ set.Iso6937 → (n ≢ 0x2014) × (n ≢ 0x2015) × (n ≢ 0xd0) × (n ≢ 0x110) × (n ≢ 0x123))
+ApartInWriting s n theirs None =
+    (IsTag s n theirs → ⊥) × (WritesBeyond s theirs (λ b. IsControl n b) → ⊥)
+    × (WritesBeyond s theirs (λ b. IsWindow s n b) → ⊥)
+    × (s ≡ set.Iso6937 → (n ≢ 0x2014) × (n ≢ 0x2015) × (n ≢ 0xd0) × (n ≢ 0x110) × (n ≢ 0x123))
 
 -- a question put to n, their answer and ours
 abbrev pub ApartAt : Question → Set → ℕ → Answer → Answer → Option Known → Type 0
-ApartAt (question.Read width) s n theirs ours k = ApartInReading s (first_byte width n) theirs ours k
+ApartAt (question.Read width) s n theirs ours k =
+    ApartInReading s (first_byte width n) theirs ours k
 ApartAt question.Write s n theirs ours k = ApartInWriting s n theirs k
 
 -- a question of a vector, reading or writing n, and our answer to it

@@ -1,4 +1,4 @@
--- What the sets that vectors name code. Assumes nothing.
+-- What the sets that vectors name code.
 use Rattle.charset.specs.Meaning.{Meaning}
 use Rattle.sets.specs.Iso6937.{iso6937}
 use Rattle.sets.specs.SingleByte.{single_byte}

@@ -1,4 +1,4 @@
--- Bytes as a number. Assumes nothing.
+-- Bytes as a number.
 use Rattle.std.specs.Prelude.{ℕ, ◌+◌, ◌*◌, ◌%◌, ◌^◌, List, fold}
 
 -- the highest first; of more than four bytes the last four

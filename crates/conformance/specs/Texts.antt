@@ -1,4 +1,4 @@
--- Answers as they are printed. Assumes nothing.
+-- Answers as they are printed.
 use Rattle.std.specs.Prelude.{ℕ, ◌-◌, ◌*◌, ◌^◌, min, true, List, ◌++◌, length, replicate, codes}
 use Rattle.std.specs.Fmt.{digits, decimal}
 use Rattle.conformance.specs.declared.answer.Answer.{Answer}

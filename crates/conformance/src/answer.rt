@@ -11,7 +11,8 @@ pub enum Answer {
     // A character's coding of so many bytes stands in front.
     Character(u32, usize),
     Open,
-    // By its cause. The other converter gives none, which is 0 and no `None`: so the stored output prints it.
+    // By its cause. The other converter gives none, which is 0 and no `None`: so the stored output
+    // prints it.
     Refused(u8),
     // The bytes of a coding as a number, and how many they are.
     Bytes(u32, usize),

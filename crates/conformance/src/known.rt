@@ -1,4 +1,5 @@
-// The differences that are known and wanted: docs/CHARACTER-SETS.md says why each is right on our side.
+// The differences that are known and wanted: docs/CHARACTER-SETS.md says why each is right on our
+// side.
 ghost use Rattle.std.specs.Prelude.{◌≡◌};
 ghost use Rattle.conformance.specs.Differences.{control_position, ApartIn6937, Beyond};
 

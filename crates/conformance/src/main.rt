@@ -1,4 +1,5 @@
-// Holds the character sets against vectors that another converter made: counts what agrees, and prints every difference.
+// Holds the character sets against vectors that another converter made: counts what agrees, and
+// prints every difference.
 #![tactic(auto)]
 
 mod answer;
@@ -30,8 +31,8 @@ impl Count {
         Ok(())
     }
 
-    // Puts the questions of a vector to our set. A loop: to collect the answers first and group them would take memory for
-    // a million of them.
+    // Puts the questions of a vector to our set. A loop: to collect the answers first and group
+    // them would take memory for a million of them.
     fn hold(&mut self, rt: &HostRuntime, vector: &Vector) -> anyhow::Result<()> {
         let mut run = Run {
             vector,

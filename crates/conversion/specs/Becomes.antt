@@ -1,4 +1,4 @@
--- What the coding of a character in one set becomes in another. Assumes nothing.
+-- What the coding of a character in one set becomes in another.
 use Rattle.std.specs.Prelude.{List, ℕ, Option, option_and_then}
 use Rattle.charset.specs.Meaning.{Meaning}
 

@@ -1,5 +1,6 @@
--- Codings that were met, kept with the coding that each becomes. Assumes nothing.
-use Rattle.std.specs.Prelude.{◌≡◌, ℕ, ◌⊎◌, cond, List, Some, None, Ok, Option, bytes_eq, slice_index_or}
+-- Codings that were met, kept with the coding that each becomes.
+use Rattle.std.specs.Prelude.{◌≡◌, ℕ, ◌⊎◌, cond, List, Some, None, Ok, Option, bytes_eq}
+use Rattle.std.specs.Prelude.{slice_index_or}
 use Rattle.charset.specs.Meaning.{Meaning}
 use Rattle.conversion.specs.Becomes.{becomes}
 use Rattle.conversion.specs.Next.{ComesNext}

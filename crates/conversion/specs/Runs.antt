@@ -1,10 +1,11 @@
--- Characters from one set into another, one after the other. Assumes nothing.
+-- Characters from one set into another, one after the other.
 use Rattle.std.specs.Prelude.{◌≡◌, ℕ, ◌≤◌, List, ◌++◌, length, take, drop}
 use Rattle.charset.specs.Meaning.{Meaning}
 use Rattle.conversion.specs.declared.Run.{Run}
 use Rattle.conversion.specs.Stops.{Leads, Reaches}
 
--- characters that fit lead to the run's end; they stand in front of the output, whose rest is as it was; and the run counts them
+-- characters that fit lead to the run's end; they stand in front of the output, whose rest is as it
+-- was; and the run counts them
 pub record Runs (S T : Meaning) (input out out' : List ℕ) (r : Run) : Type 0 where
   pub chars : List ℕ
   pub source : List ℕ
@@ -15,7 +16,8 @@ pub record Runs (S T : Meaning) (input out out' : List ℕ) (r : Run) : Type 0 w
   pub read : r.read ≡ length source
   pub written : r.written ≡ length target
 
--- so many characters that fit were read up to a place in the input and written up to a place in the output, whose rest is as it was
+-- so many characters that fit were read up to a place in the input and written up to a place in the
+-- output, whose rest is as it was
 pub record Far (S T : Meaning) (input out out' : List ℕ) (count at put : ℕ) : Type 0 where
   pub chars : List ℕ
   pub counted : count ≡ length chars

@@ -1,4 +1,4 @@
--- One character from one set into another. Assumes nothing.
+-- One character from one set into another.
 use Rattle.std.specs.Prelude.{◌≡◌, ℕ, ◌≤◌, List, ◌++◌, length, drop, Some, Ok, Err, Result}
 use Rattle.charset.specs.declared.Reading.TheVariants.{Found}
 use Rattle.charset.specs.Meaning.{Meaning}
@@ -8,9 +8,11 @@ use Rattle.conversion.specs.declared.Step.{Step}
 use Rattle.conversion.specs.declared.Step.TheVariants.{Written, Paused}
 use Rattle.conversion.specs.Stops.{Stops}
 
--- the character in front of the input was written in front of the output, or an end stands there and nothing was written
+-- the character in front of the input was written in front of the output, or an end stands there
+-- and nothing was written
 abbrev pub Steps : Meaning → Meaning → List ℕ → List ℕ → List ℕ → Result Step Fault → Type 0
 Steps S T input out out' (Ok (Written n w)) =
-    (c : ℕ) × (v : List ℕ) × Reads S input (Ok (Found c n)) × (T.codings.string c ≡ Some v) × (w ≡ length v) × (length v ≤ length out) × (out' ≡ v ++ drop (length v) out)
+    (c : ℕ) × (v : List ℕ) × Reads S input (Ok (Found c n)) × (T.codings.string c ≡ Some v)
+    × (w ≡ length v) × (length v ≤ length out) × (out' ≡ v ++ drop (length v) out)
 Steps S T input out out' (Ok (Paused p)) = Stops S T input 0 (length out) (Ok p) × (out' ≡ out)
 Steps S T input out out' (Err f) = Stops S T input 0 (length out) (Err f) × (out' ≡ out)

@@ -1,5 +1,6 @@
--- Characters that lead from one set into another, and what ends them. Assumes nothing.
-use Rattle.std.specs.Prelude.{◌≡◌, ℕ, ◌+◌, ◌<◌, ◌≤◌, List, ◌++◌, length, Some, None, Ok, Err, Result}
+-- Characters that lead from one set into another, and what ends them.
+use Rattle.std.specs.Prelude.{◌≡◌, ℕ, ◌+◌, ◌<◌, ◌≤◌, List, ◌++◌, length, Some, None, Ok, Err}
+use Rattle.std.specs.Prelude.{Result}
 use Rattle.charset.specs.declared.Reading.TheVariants as reading
 use Rattle.charset.specs.Meaning.{Meaning}
 use Rattle.charset.specs.Answers.{Reads}
@@ -12,24 +13,31 @@ use Rattle.conversion.specs.declared.Pause.TheVariants.{Open, Full}
 abbrev pub End : Type 0
 End = Result Pause Fault
 
--- the input begins with characters in source codings that fit an output of room bytes: they lead to the rest
-pub record Leads (S T : Meaning) (input : List ℕ) (room : ℕ) (chars source target rest : List ℕ) : Type 0 where
+-- the input begins with characters in source codings that fit an output of room bytes: they lead to
+-- the rest
+pub record Leads (S T : Meaning) (input : List ℕ) (room : ℕ)
+    (chars source target rest : List ℕ) : Type 0 where
   pub from : Spells S chars source
   pub into : Spells T chars target
   pub begins : input ≡ source ++ rest
   pub fits : length target ≤ room
 
 -- what comes next is an end: with used bytes of the output written,
--- the rest is an opening; or the target coding of its first character does not fit; or that character has none; or nothing can be read
+-- the rest is an opening; or the target coding of its first character does not fit; or that
+-- character has none; or nothing can be read
 abbrev pub Stops : Meaning → Meaning → List ℕ → ℕ → ℕ → End → Type 0
 Stops S T rest used room (Ok Open) = Reads S rest (Ok reading.Open)
-Stops S T rest used room (Ok Full) = (c n : ℕ) × (v : List ℕ) × Reads S rest (Ok (reading.Found c n)) × (T.codings.string c ≡ Some v) × (room < used + length v)
-Stops S T rest used room (Err (Unwritten c)) = (n : ℕ) × Reads S rest (Ok (reading.Found c n)) × (T.codings.string c ≡ None)
+Stops S T rest used room (Ok Full) =
+    (c n : ℕ) × (v : List ℕ) × Reads S rest (Ok (reading.Found c n)) × (T.codings.string c ≡ Some v)
+    × (room < used + length v)
+Stops S T rest used room (Err (Unwritten c)) =
+    (n : ℕ) × Reads S rest (Ok (reading.Found c n)) × (T.codings.string c ≡ None)
 Stops S T rest used room (Err (Unread q)) = Reads S rest (Err q)
 Stops S T rest used room (Err Unfinished) = ⊥
 
 -- characters that fit lead to that end
-pub record Reaches (S T : Meaning) (input : List ℕ) (room : ℕ) (end : End) (chars source target : List ℕ) : Type 0 where
+pub record Reaches (S T : Meaning) (input : List ℕ) (room : ℕ) (end : End)
+    (chars source target : List ℕ) : Type 0 where
   pub rest : List ℕ
   pub leads : Leads S T input room chars source target rest
   pub stops : Stops S T rest (length target) room end

@@ -1,5 +1,6 @@
--- What the transcription of a text is. Assumes nothing.
-use Rattle.std.specs.Prelude.{◌≡◌, ℕ, ◌<◌, ◌≤◌, List, [], length, take, drop, Some, None, Ok, Err, Option}
+-- What the transcription of a text is.
+use Rattle.std.specs.Prelude.{◌≡◌, ℕ, ◌<◌, ◌≤◌, List, [], length, take, drop, Some, None, Ok, Err}
+use Rattle.std.specs.Prelude.{Option}
 use Rattle.charset.specs.declared.Reading.TheVariants.{Found, Open}
 use Rattle.charset.specs.Meaning.{Meaning}
 use Rattle.charset.specs.Answers.{Reads}
@@ -11,11 +12,14 @@ use Rattle.conversion.specs.declared.Fault.TheVariants.{Unread, Unwritten, Unfin
 abbrev pub Ends : Meaning → Meaning → List ℕ → Option Fault → Type 0
 Ends S T rest None = rest ≡ []
 Ends S T rest (Some (Unread q)) = Reads S rest (Err q)
-Ends S T rest (Some (Unwritten c)) = (n : ℕ) × Reads S rest (Ok (Found c n)) × (T.codings.string c ≡ None)
+Ends S T rest (Some (Unwritten c)) =
+    (n : ℕ) × Reads S rest (Ok (Found c n)) × (T.codings.string c ≡ None)
 Ends S T rest (Some Unfinished) = Reads S rest (Ok Open) × (0 < length rest)
 
--- the bytes up to the offset are characters in source codings, and the text is the same characters in target codings
-pub record Transcribed (S T : Meaning) (bytes text : List ℕ) (count offset : ℕ) (stop : Option Fault) : Type 0 where
+-- the bytes up to the offset are characters in source codings, and the text is the same characters
+-- in target codings
+pub record Transcribed (S T : Meaning) (bytes text : List ℕ) (count offset : ℕ)
+    (stop : Option Fault) : Type 0 where
   pub chars : List ℕ
   pub counted : count ≡ length chars
   pub inside : offset ≤ length bytes
@@ -24,6 +28,8 @@ pub record Transcribed (S T : Meaning) (bytes text : List ℕ) (count offset : �
   pub ends : Ends S T (drop offset bytes) stop
 
 -- the bytes are transcribed so, and in no other way
-pub record TheTranscript (S T : Meaning) (bytes text : List ℕ) (count offset : ℕ) (stop : Option Fault) : Type 0 where
+pub record TheTranscript (S T : Meaning) (bytes text : List ℕ) (count offset : ℕ)
+    (stop : Option Fault) : Type 0 where
   pub transcribed : Transcribed S T bytes text count offset stop
-  pub only : (t : List ℕ) (n o : ℕ) (s : Option Fault) → Transcribed S T bytes t n o s → (t ≡ text) × (n ≡ count) × (o ≡ offset) × (s ≡ stop)
+  pub only : (t : List ℕ) (n o : ℕ) (s : Option Fault) → Transcribed S T bytes t n o s
+      → (t ≡ text) × (n ≡ count) × (o ≡ offset) × (s ≡ stop)

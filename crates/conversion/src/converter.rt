@@ -27,7 +27,8 @@ impl<S: CharacterSet, T: CharacterSet> Converter<S, T> {
         }
     }
 
-    // The held bytes and then the sector, character after character, into the output, until something ends it.
+    // The held bytes and then the sector, character after character, into the output, until
+    // something ends it.
     pub fn convert(&mut self, held: Front, sector: &[u8], output: &mut [u8]) -> Run
         ensures sets { (self.new.sets.source ≡ self.old.sets.source) × (self.new.sets.target ≡ self.old.sets.target) }
         ensures runs { Runs (set_of S.CharacterSet self.old.sets.source) (set_of T.CharacterSet self.old.sets.target) (held ++ sector.now) output.old output.new result }

@@ -41,8 +41,8 @@ pub enum Pause {
     Full,
 }
 
-// What comes of one character, where there is no fault. A pause is no error, since the conversion goes on with the next bytes or the
-// next output, and so it stands beside what is written.
+// What comes of one character, where there is no fault. A pause is no error, since the conversion
+// goes on with the next bytes or the next output, and so it stands beside what is written.
 #[derive(Clone, Copy)]
 pub enum Step {
     // It was read from so many bytes, and written as so many.
@@ -59,7 +59,8 @@ pub struct Run {
     pub end: Result<Pause, Fault>,
 }
 
-// The target coding of the character in front of the input, and how many bytes the character is read from; none where the input is open.
+// The target coding of the character in front of the input, and how many bytes the character is
+// read from; none where the input is open.
 fn next_coding<S: CharacterSet, T: CharacterSet>(
     source: &S,
     target: &T,

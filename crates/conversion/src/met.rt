@@ -1,5 +1,6 @@
 // Codings of two and of three bytes, with the coding that each becomes, kept as they are met.
-ghost use Rattle.std.specs.Prelude.{◌≡◌, ℕ, ◌≤◌, ◌+◌, ◌*◌, ◌%◌, List, length, take, Some, None, replicate, slice_set};
+ghost use Rattle.std.specs.Prelude.{◌≡◌, ℕ, ◌≤◌, ◌+◌, ◌*◌, ◌%◌, List, length, take, Some, None};
+ghost use Rattle.std.specs.Prelude.{replicate, slice_set};
 ghost use Rattle.charset.specs.Meaning.{Meaning};
 ghost use Rattle.conversion.specs.Becomes.{becomes};
 ghost use Rattle.conversion.specs.Met.{found_in, Right, FoundNext};

@@ -70,7 +70,8 @@ impl<S: CharacterSet, T: CharacterSet> TwoSets<S, T> {
         }
     }
 
-    // Looks up what each byte becomes, unless that is done, where so many bytes are to come that it is worth it.
+    // Looks up what each byte becomes, unless that is done, where so many bytes are to come that it
+    // is worth it.
     pub(crate) fn prepare(&mut self, bytes: usize)
         ensures sets { (self.new.source ≡ self.old.source) × (self.new.target ≡ self.old.target) }
     {
@@ -80,7 +81,8 @@ impl<S: CharacterSet, T: CharacterSet> TwoSets<S, T> {
         }
     }
 
-    // What the bytes in front of the input become, in front of the output, as far as that is known; how many these are.
+    // What the bytes in front of the input become, in front of the output, as far as that is known;
+    // how many these are.
     fn copy_plain(&self, input: &[u8], output: &mut [u8]) -> usize
         ensures { Far (set_of S.CharacterSet self.now.source) (set_of T.CharacterSet self.now.target) input.now output.old output.new result result result }
     {
@@ -95,8 +97,8 @@ impl<S: CharacterSet, T: CharacterSet> TwoSets<S, T> {
         count
     }
 
-    // The same of the bytes that stand `at` bytes behind the start of the held bytes and then the sector. None of those that are held: a
-    // transcript holds few.
+    // The same of the bytes that stand `at` bytes behind the start of the held bytes and then the
+    // sector. None of those that are held: a transcript holds few.
     fn plain_at(&self, held: Front, sector: &[u8], at: usize, output: &mut [u8]) -> usize
         requires { at ≤ length (held ++ sector.now) }
         ensures { Far (set_of S.CharacterSet self.now.source) (set_of T.CharacterSet self.now.target) (drop at (held ++ sector.now)) output.old output.new result result result }
@@ -151,7 +153,8 @@ impl<S: CharacterSet, T: CharacterSet> TwoSets<S, T> {
         })
     }
 
-    // The character that stands there. As long as it begins among the held bytes it is read from a copy of the four bytes there, which decide it.
+    // The character that stands there. As long as it begins among the held bytes it is read from a
+    // copy of the four bytes there, which decide it.
     fn one_at(
         &self,
         met: &mut MetCodings,
@@ -174,8 +177,9 @@ impl<S: CharacterSet, T: CharacterSet> TwoSets<S, T> {
         }
     }
 
-    // What `convert` does: the bytes that stand alone in both sets at once, the others one at a time. A loop, since what is read and written
-    // decides where the next character is read and written.
+    // What `convert` does: the bytes that stand alone in both sets at once, the others one at a
+    // time. A loop, since what is read and written decides where the next character is read and
+    // written.
     pub(crate) fn run(
         &self,
         met: &mut MetCodings,

@@ -1,4 +1,5 @@
-// Reads a roll from standard input, and writes the text of its pages in UTF-8 with a line on how each went.
+// Reads a roll from standard input, and writes the text of its pages in UTF-8 with a line on how
+// each went.
 #![tactic(auto)]
 
 use report::{LONGEST_INPUT, report};

@@ -1,11 +1,12 @@
--- What the set of a form means. Assumes nothing.
+-- What the set of a form means.
 use Rattle.charset.specs.Meaning.{Meaning}
 use Rattle.sets.specs.Iso6937.{iso6937}
 use Rattle.sets.specs.SingleByte.{single_byte}
 use Rattle.sets.specs.Utf8.{utf8}
 use Rattle.layers.specs.Layers.{parity, shift, sub, controls}
 use Rattle.form_sets.specs.declared.FormSet.{FormSet}
-use Rattle.form_sets.specs.declared.FormSet.TheVariants.{EightBit, SevenBit, SevenBitParity, SingleByte, Unicode, Basic}
+use Rattle.form_sets.specs.declared.FormSet.TheVariants.{EightBit, SevenBit, SevenBitParity}
+use Rattle.form_sets.specs.declared.FormSet.TheVariants.{SingleByte, Unicode, Basic}
 
 abbrev pub meaning_of : FormSet → Meaning
 meaning_of (EightBit s) = controls s.chosen iso6937

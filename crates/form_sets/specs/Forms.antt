@@ -1,4 +1,4 @@
--- The set of each form of text. Assumes nothing.
+-- The set of each form of text.
 use Rattle.charset.specs.Meaning.{Meaning}
 use Rattle.sets.specs.Iso6937.{iso6937}
 use Rattle.sets.specs.SingleByte.{single_byte}
@@ -7,7 +7,8 @@ use Rattle.sets.specs.Utf8.{utf8}
 use Rattle.layers.specs.CharacterList.{required}
 use Rattle.layers.specs.Layers.{parity, shift, sub, controls}
 use Rattle.pages.specs.declared.page.Form.{Form}
-use Rattle.pages.specs.declared.page.Form.TheVariants.{EightBit, SevenBit, SevenBitParity, Latin10, Sami, Unicode, Basic}
+use Rattle.pages.specs.declared.page.Form.TheVariants.{EightBit, SevenBit, SevenBitParity, Latin10}
+use Rattle.pages.specs.declared.page.Form.TheVariants.{Sami, Unicode, Basic}
 use Rattle.page_stacks.specs.PageControls.{page_controls}
 
 abbrev pub form_set : Form → Meaning

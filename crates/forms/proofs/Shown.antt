@@ -1,4 +1,4 @@
--- The worked examples, by computing. Assumes nothing.
+-- The worked examples, by computing.
 use Rattle.std.proofs.Common.{◌≡◌, ℕ, ◌≤◌, List, [], ◌∷◌, ◌++◌, length, Ok, Err, refl, arith}
 use Rattle.charset.specs.declared.Reading.TheVariants as reading
 use Rattle.charset.specs.Answers.{Reads, reading}
@@ -31,44 +31,68 @@ unfolding reading supplementary diacritics first_from
 cedilla_read = by_reading iso6937_laws (0xcb ∷ 0x73 ∷ []) (Ok (reading.Found 0x15f 2)) refl
 
 -- an end behind some characters
-abbrev reaching : (input : List ℕ) (room : ℕ) (e : End) (chars source target rest : List ℕ) → Spells iso6937 chars source → Spells latin chars target → input ≡ source ++ rest → length target ≤ room → Stops iso6937 latin rest (length target) room e
+abbrev reaching : (input : List ℕ) (room : ℕ) (e : End) (chars source target rest : List ℕ)
+    → Spells iso6937 chars source → Spells latin chars target → input ≡ source ++ rest
+    → length target ≤ room → Stops iso6937 latin rest (length target) room e
     → Reaches iso6937 latin input room e chars source target
-reaching input room e chars source target rest a b c d f = record { rest = rest; leads = record { from = a; into = b; begins = c; fits = d }; stops = f }
+reaching input room e chars source target rest a b c d f =
+    record { rest = rest; leads = record { from = a; into = b; begins = c; fits = d }; stops = f }
 
-acute_offered : Use iso6937 latin (offer (0xc2 ∷ []) (0 ∷ []) (Ok (done 1 0)) (0 ∷ []) ∷ (start ∷ [])) (record { state = Open; taken = 1; characters = 0; written = 0; held = 0xc2 ∷ [] })
+acute_offered : Use iso6937 latin (offer (0xc2 ∷ []) (0 ∷ []) (Ok (done 1 0)) (0 ∷ [])
+    ∷ (start ∷ []))
+    (record { state = Open; taken = 1; characters = 0; written = 0; held = 0xc2 ∷ [] })
 acute_offered = call made (record {
   chars = [];
   source = [];
   target = [];
   end = Ok pause.Open;
-  reaches = reaching (0xc2 ∷ []) 1 (Ok pause.Open) [] [] [] (0xc2 ∷ []) refl refl refl (omega arith) of_sets_and_layers.acute_open;
+  reaches =
+      reaching (0xc2 ∷ []) 1 (Ok pause.Open) [] [] [] (0xc2 ∷ []) refl refl refl (omega arith)
+      of_sets_and_layers.acute_open;
   answer = refl;
   left = refl;
   next = refl;
 })
 
-letter_offered : Use iso6937 latin (offer (0x65 ∷ []) (0 ∷ []) (Ok (done 1 1)) (0xe9 ∷ []) ∷ (offer (0xc2 ∷ []) (0 ∷ []) (Ok (done 1 0)) (0 ∷ []) ∷ (start ∷ []))) (record { state = Open; taken = 2; characters = 1; written = 1; held = [] })
+letter_offered : Use iso6937 latin (offer (0x65 ∷ []) (0 ∷ []) (Ok (done 1 1)) (0xe9 ∷ [])
+    ∷ (offer (0xc2 ∷ []) (0 ∷ []) (Ok (done 1 0)) (0 ∷ []) ∷ (start ∷ [])))
+    (record { state = Open; taken = 2; characters = 1; written = 1; held = [] })
 unfolding supplementary diacritics first_from iso8859_16
 letter_offered = call acute_offered (record {
   chars = 0xe9 ∷ [];
   source = 0xc2 ∷ 0x65 ∷ [];
   target = 0xe9 ∷ [];
   end = Ok pause.Open;
-  reaches = reaching (0xc2 ∷ 0x65 ∷ []) 1 (Ok pause.Open) (0xe9 ∷ []) (0xc2 ∷ 0x65 ∷ []) (0xe9 ∷ []) [] (0xc2 ∷ 0x65 ∷ [], [], refl, refl, refl) (0xe9 ∷ [], [], refl, refl, refl) refl (omega arith) iso6937_laws.empty_opens;
+  reaches =
+      reaching (0xc2 ∷ 0x65 ∷ []) 1 (Ok pause.Open) (0xe9 ∷ []) (0xc2 ∷ 0x65 ∷ []) (0xe9 ∷ []) []
+      (0xc2 ∷ 0x65 ∷ [], [], refl, refl, refl) (0xe9 ∷ [], [], refl, refl, refl) refl (omega arith)
+      iso6937_laws.empty_opens;
   answer = refl;
   left = refl;
   next = refl;
 })
 
-cedilla_offered : Use iso6937 latin (offer (0x41 ∷ 0xcb ∷ 0x73 ∷ []) (0 ∷ 0 ∷ []) (Err (Faulted (fault_at (Unwritten 0x15f) 1 1 1))) (0x41 ∷ 0 ∷ []) ∷ (start ∷ []))
-    (record { state = state.Faulted (fault_at (Unwritten 0x15f) 1 1 1); taken = 1; characters = 1; written = 1; held = [] })
+cedilla_offered : Use iso6937 latin
+    (offer (0x41 ∷ 0xcb ∷ 0x73 ∷ []) (0 ∷ 0 ∷ []) (Err (Faulted (fault_at (Unwritten 0x15f) 1 1 1)))
+    (0x41 ∷ 0 ∷ []) ∷ (start ∷ []))
+    (record {
+      state = state.Faulted (fault_at (Unwritten 0x15f) 1 1 1);
+      taken = 1;
+      characters =
+          1;
+      written = 1;
+      held = [];
+    })
 unfolding supplementary diacritics first_from iso8859_16
 cedilla_offered = call made (record {
   chars = 0x41 ∷ [];
   source = 0x41 ∷ [];
   target = 0x41 ∷ [];
   end = Err (Unwritten 0x15f);
-  reaches = reaching (0x41 ∷ 0xcb ∷ 0x73 ∷ []) 2 (Err (Unwritten 0x15f)) (0x41 ∷ []) (0x41 ∷ []) (0x41 ∷ []) (0xcb ∷ 0x73 ∷ []) (0x41 ∷ [], [], refl, refl, refl) (0x41 ∷ [], [], refl, refl, refl) refl (omega arith) (2, cedilla_read, refl);
+  reaches =
+      reaching (0x41 ∷ 0xcb ∷ 0x73 ∷ []) 2 (Err (Unwritten 0x15f)) (0x41 ∷ []) (0x41 ∷ [])
+      (0x41 ∷ []) (0xcb ∷ 0x73 ∷ []) (0x41 ∷ [], [], refl, refl, refl)
+      (0x41 ∷ [], [], refl, refl, refl) refl (omega arith) (2, cedilla_read, refl);
   answer = refl;
   left = refl;
   next = refl;

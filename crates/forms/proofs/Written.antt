@@ -1,5 +1,6 @@
--- Every character of every form has a coding in UTF-8. Assumes nothing.
-use Rattle.std.proofs.Common.{◌≡◌, ℕ, true, List, [], ◌∷◌, take, drop, IfOk, Some, Ok, Err, Option, Result, sym, refl, ◌∙◌, subst, inl, inr, arith}
+-- Every character of every form has a coding in UTF-8.
+use Rattle.std.proofs.Common.{◌≡◌, ℕ, true, List, [], ◌∷◌, take, drop, IfOk, Some, Ok, Err, Option}
+use Rattle.std.proofs.Common.{Result, sym, refl, ◌∙◌, subst, inl, inr, arith}
 use Rattle.std.proofs.lemmas.Option.{none-some}
 use Rattle.charset.specs.Meaning.{Meaning, Codes, Laws}
 use Rattle.sets.specs.Iso6937.{iso6937}
@@ -23,7 +24,8 @@ use Rattle.transcription.specs.declared.Failure.{Failure}
 use Rattle.transcription.specs.declared.Transcription.{Transcription}
 use Rattle.transcription.specs.Carried.{fault_in, offset_in}
 use Rattle.pages.specs.declared.page.Form.{Form}
-use Rattle.pages.specs.declared.page.Form.TheVariants.{EightBit, SevenBit, SevenBitParity, Latin10, Sami, Unicode, Basic}
+use Rattle.pages.specs.declared.page.Form.TheVariants.{EightBit, SevenBit, SevenBitParity, Latin10}
+use Rattle.pages.specs.declared.page.Form.TheVariants.{Sami, Unicode, Basic}
 use Rattle.form_sets.specs.Forms.{form_set}
 use Rattle.page_stacks.specs.PageControls.{page_controls}
 use Rattle.forms.specs.Texts.{TextOf, AlwaysWritten}
@@ -68,20 +70,34 @@ iso_written s c e = low_written c (low_character s c e)
 
 form_written : (f : Form) → AllInUtf8 (form_set f)
 form_written EightBit = controls_written iso6937 iso6937_laws iso_written
-form_written SevenBit = controls_written (shift iso6937) (shift_laws iso6937_laws) (shift_written iso6937 iso6937_laws iso_written)
+form_written SevenBit =
+    controls_written (shift iso6937) (shift_laws iso6937_laws)
+    (shift_written iso6937 iso6937_laws iso_written)
 form_written SevenBitParity =
-    parity_written (controls page_controls (shift iso6937)) (controls_laws page_controls (shift_laws iso6937_laws))
-    (controls_written (shift iso6937) (shift_laws iso6937_laws) (shift_written iso6937 iso6937_laws iso_written))
-form_written Latin10 = controls_written (single_byte iso8859_16) (single_byte_laws iso8859_16 iso8859_16_once) (table_written iso8859_16 latin_low)
-form_written Sami = controls_written (single_byte sami) (single_byte_laws sami sami_once) (table_written sami sami_low)
+    parity_written (controls page_controls (shift iso6937))
+    (controls_laws page_controls (shift_laws iso6937_laws))
+    (controls_written (shift iso6937) (shift_laws iso6937_laws)
+    (shift_written iso6937 iso6937_laws iso_written))
+form_written Latin10 =
+    controls_written (single_byte iso8859_16) (single_byte_laws iso8859_16 iso8859_16_once)
+    (table_written iso8859_16 latin_low)
+form_written Sami =
+    controls_written (single_byte sami) (single_byte_laws sami sami_once)
+    (table_written sami sami_low)
 form_written Unicode = λ s c e. (s, utf8_laws.read s c e)
-form_written Basic = controls_written (sub required iso6937) (sub_laws required iso6937_laws) (sub_written required iso6937 iso6937_laws iso_written)
+form_written Basic =
+    controls_written (sub required iso6937) (sub_laws required iso6937_laws)
+    (sub_written required iso6937 iso6937_laws iso_written)
 
-ends_written : (m : Meaning) → AllInUtf8 m → (rest : List ℕ) (stop : Option Fault) → Ends m utf8 rest stop → AlwaysWritten stop
+ends_written : (m : Meaning) → AllInUtf8 m → (rest : List ℕ) (stop : Option Fault)
+    → Ends m utf8 rest stop → AlwaysWritten stop
 ends_written m all rest stop h c e =
     let k : Ends m utf8 rest (Some (Unwritten c)) = subst (Ends m utf8 rest) e h in
     none-some _ (sym k.2 ∙ (all (take k.0 rest) c k.1.1).1)
 
-pub always_written : (f : Form) (bytes : List ℕ) (r : Result Transcription Failure) → IfOk r (λ p. TextOf (form_set f) bytes p) → IfOk r (λ p. AlwaysWritten (fault_in p.outcome))
-always_written f bytes (Ok p) h = ends_written (form_set f) (form_written f) (drop (offset_in bytes p.outcome) bytes) (fault_in p.outcome) h.transcript.transcribed.ends
+pub always_written : (f : Form) (bytes : List ℕ) (r : Result Transcription Failure)
+    → IfOk r (λ p. TextOf (form_set f) bytes p) → IfOk r (λ p. AlwaysWritten (fault_in p.outcome))
+always_written f bytes (Ok p) h =
+    ends_written (form_set f) (form_written f) (drop (offset_in bytes p.outcome) bytes)
+    (fault_in p.outcome) h.transcript.transcribed.ends
 always_written f bytes (Err e) h = tt

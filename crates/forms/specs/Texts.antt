@@ -1,5 +1,6 @@
--- The text of a page. Assumes nothing.
-use Rattle.std.specs.Prelude.{◌≡◌, ℕ, ◌<◌, ◌≤◌, ◌⊎◌, List, [], length, Some, None, Ok, Err, vec_items, Option, Result, ◌≢◌}
+-- The text of a page.
+use Rattle.std.specs.Prelude.{◌≡◌, ℕ, ◌<◌, ◌≤◌, ◌⊎◌, List, [], length, Some, None, Ok, Err}
+use Rattle.std.specs.Prelude.{vec_items, Option, Result, ◌≢◌}
 use Rattle.charset.specs.Meaning.{Meaning}
 use Rattle.sets.specs.Utf8.{utf8}
 use Rattle.conversion.specs.declared.Fault.{Fault}
@@ -15,7 +16,8 @@ use Rattle.pages.specs.declared.page.Page.TheVariants.{Text, Picture}
 use Rattle.forms.specs.declared.PageText.{PageText}
 use Rattle.form_sets.specs.Forms.{form_set}
 
--- the bytes in that set, in UTF-8: the characters up to the end or a fault, by a use of a transcript
+-- the bytes in that set, in UTF-8: the characters up to the end or a fault, by a use of a
+-- transcript
 pub record TextIn (m : Meaning) (bytes text : List ℕ) (characters : ℕ) (o : Outcome) : Type 0 where
   pub transcript : TheTranscript m utf8 bytes text characters (offset_in bytes o) (fault_in o)
   pub carried_out : CarriedOut m utf8 bytes text characters o
@@ -39,11 +41,15 @@ page_form (Picture part at) = None
 
 -- no text
 abbrev pub IsEmptyText : Option Form → Result (Unit {0}) RollFault → PageText → Type 0
-IsEmptyText form r t = (t.form ≡ form) × (vec_items t.text ≡ []) × (t.characters ≡ 0) × (t.outcome ≡ r)
+IsEmptyText form r t =
+    (t.form ≡ form) × (vec_items t.text ≡ []) × (t.characters ≡ 0) × (t.outcome ≡ r)
 
--- a page of text is transcribed by its form, unless it is longer than a source may be, and so than any roll; a picture has no text
-abbrev pub IsPageText : ℕ → Page → (text : List ℕ) → (characters : ℕ) → Result (Unit {0}) RollFault → Type 0
+-- a page of text is transcribed by its form, unless it is longer than a source may be, and so than
+-- any roll; a picture has no text
+abbrev pub IsPageText : ℕ → Page → (text : List ℕ) → (characters : ℕ) → Result (Unit {0}) RollFault
+    → Type 0
 IsPageText n (Text f part at) text characters r =
-    ((length part.now ≤ 4294967296) × (o : Outcome) × TextIn (form_set f) part.now text characters o × (r ≡ on_page n o))
+    ((length part.now ≤ 4294967296) × (o : Outcome) × TextIn (form_set f) part.now text characters o
+    × (r ≡ on_page n o))
     ⊎ ((4294967296 < length part.now) × (text ≡ []) × (characters ≡ 0) × (r ≡ Err WrongSize))
 IsPageText n (Picture part at) text characters r = (text ≡ []) × (characters ≡ 0) × (r ≡ Ok tt)

@@ -6,7 +6,8 @@ ghost use Rattle.transcription.specs.Failures.{IsTooLongOrWanting};
 ghost use Rattle.transcription.specs.Carried.{fault_in};
 ghost use Rattle.forms.specs.Examples.{WorkedExamples};
 ghost use Rattle.form_sets.specs.Forms.{form_set};
-ghost use Rattle.forms.specs.Texts.{TextOf, AlwaysWritten, on_page, page_form, IsEmptyText, IsPageText};
+ghost use Rattle.forms.specs.Texts.{TextOf, AlwaysWritten, on_page, page_form, IsEmptyText};
+ghost use Rattle.forms.specs.Texts.{IsPageText};
 
 use answers::FaultAt;
 use form_sets::FormSet;
@@ -27,7 +28,8 @@ pub fn form_text(heap: Global, form: Form, bytes: &[u8]) -> Result<Transcription
     transcribe(heap, set, Utf8, bytes)
 }
 
-// The text of a page up to its end or a fault, its form, which a picture has not, and how many characters it has.
+// The text of a page up to its end or a fault, its form, which a picture has not, and how many
+// characters it has.
 #[derive(Drop)]
 pub struct PageText {
     pub form: Option<Form>,
@@ -58,8 +60,8 @@ impl PageText {
     }
 }
 
-// The text of a page; a fault carries `number`, the page's number from 1. A page that is longer than a source may be, which no roll can
-// hold, is refused as a roll of that size is.
+// The text of a page; a fault carries `number`, the page's number from 1. A page that is longer
+// than a source may be, which no roll can hold, is refused as a roll of that size is.
 pub fn page_text(heap: Global, number: u32, page: &Page) -> Result<PageText, AllocError>
     ensures form { IfOk result (λ t. t.form ≡ page_form page.now) }
     ensures text { IfOk result (λ t. IsPageText number page.now t.text.items t.characters t.outcome) }

@@ -1,10 +1,11 @@
--- Any stack of layers on a lawful set is lawful, and the whole law. Assumes nothing.
+-- Any stack of layers on a lawful set is lawful, and the whole law.
 use Rattle.std.proofs.Common.{List, [], ◌∷◌}
 use Rattle.charset.specs.Meaning.{Meaning, Laws}
 use Rattle.layers.specs.LayersKeep.{parity_laws, shift_laws, sub_laws, controls_laws}
 use Rattle.layers.proofs.Wording.{parity_meaning, shift_meaning}
 use Rattle.layers.proofs.MoreWording.{sub_meaning, controls_meaning}
-use Rattle.law.specs.Stacks.{Layer, parity_layer, shift_layer, subrepertoire_of, controls_of, layered, stack, Means, TheLaw}
+use Rattle.law.specs.Stacks.{Layer, parity_layer, shift_layer, subrepertoire_of, controls_of}
+use Rattle.law.specs.Stacks.{layered, stack, Means, TheLaw}
 use Rattle.law.proofs.Back.{transcription_law}
 
 layered_laws : (y : Layer) {m : Meaning} → Laws m → Laws (layered y m)
@@ -27,5 +28,7 @@ pub the_law : TheLaw
 the_law = record {
   stacks = stack_laws;
   layers = λ y ys m l. means y (stack ys m) (stack_laws ys m l);
-  transcripts = λ ys zs S T l k. transcription_law (stack ys S) (stack zs T) (stack_laws ys S l) (stack_laws zs T k);
+  transcripts =
+      λ ys zs S T l k. transcription_law (stack ys S) (stack zs T) (stack_laws ys S l)
+      (stack_laws zs T k);
 }

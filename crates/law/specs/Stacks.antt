@@ -1,4 +1,4 @@
--- Any stack of layers on any lawful set, and the whole law. Assumes nothing.
+-- Any stack of layers on any lawful set, and the whole law.
 use Rattle.std.specs.Prelude.{ℕ, Bool, List, [], ◌∷◌}
 use Rattle.charset.specs.Meaning.{Meaning, Laws}
 use Rattle.layers.specs.Layers.{parity, shift, sub, controls}
@@ -28,9 +28,11 @@ Means shift_layer m = ShiftMeaning m
 Means (subrepertoire_of list) m = SubMeaning list m
 Means (controls_of chosen) m = ControlsMeaning chosen m
 
--- any stack on a lawful set is a lawful set, each layer with the meaning that its words give it on what lies below;
--- and a transcript between any stack on one lawful set and any stack on another keeps the law of transcription
+-- any stack on a lawful set is a lawful set, each layer with the meaning that its words give it on
+-- what lies below; and a transcript between any stack on one lawful set and any stack on another
+-- keeps the law of transcription
 pub record TheLaw : Type 0 where
   pub stacks : (ys : List Layer) (m : Meaning) → Laws m → Laws (stack ys m)
   pub layers : (y : Layer) (ys : List Layer) (m : Meaning) → Laws m → Means y (stack ys m)
-  pub transcripts : (ys zs : List Layer) (S T : Meaning) → Laws S → Laws T → TranscriptionLaw (stack ys S) (stack zs T)
+  pub transcripts : (ys zs : List Layer) (S T : Meaning) → Laws S → Laws T
+      → TranscriptionLaw (stack ys S) (stack zs T)

@@ -1,28 +1,45 @@
--- Numbers are refused on one ground only. Assumes nothing.
-use Rattle.std.proofs.Common.{◌≡◌, ℕ, ◌<◌, ◌≤◌, true, false, ◌⊎◌, List, length, None, sym, ◌∙◌, inl, inr, arith}
+-- Numbers are refused on one ground only.
+use Rattle.std.proofs.Common.{◌≡◌, ℕ, ◌<◌, ◌≤◌, true, false, ◌⊎◌, List, length, None, sym, ◌∙◌, inl}
+use Rattle.std.proofs.Common.{inr, arith}
 use Rattle.std.proofs.lemmas.Bool.{cases_order, both_ways}
 use Rattle.charset.specs.Meaning.{Codings}
 use Rattle.layers.specs.CharacterList.{required, rises_at, on_list, Rising, Complete}
 use Rattle.layers.specs.Refusals.{Told}
-use Rattle.layers.specs.Filled.{FirstNotRising, FirstMissing, FirstUncoded, IsNotIncreasing, Lacking, WithoutCoding, Acceptable, Ground, OneAnswer}
+use Rattle.layers.specs.Filled.{FirstNotRising, FirstMissing, FirstUncoded, IsNotIncreasing}
+use Rattle.layers.specs.Filled.{Lacking, WithoutCoding, Acceptable, Ground, OneAnswer}
 
 -- there is one smallest number only
-smallest : (P : ℕ → Type 0) (i j : ℕ) → P i → P j → ((k : ℕ) → k < i → P k → ⊥) → ((k : ℕ) → k < j → P k → ⊥) → i ≡ j
-smallest P i j p q f g = elim (cases_order i j) [ inl e ↦ e | inr o ↦ elim o [ inl h ↦ absurd (g i h p) | inr h ↦ absurd (f j h q) ] ]
+smallest : (P : ℕ → Type 0) (i j : ℕ) → P i → P j → ((k : ℕ) → k < i → P k → ⊥)
+    → ((k : ℕ) → k < j → P k → ⊥) → i ≡ j
+smallest P i j p q f g =
+    elim (cases_order i j) [
+      | inl e ↦ e
+      | inr o ↦ elim o
+          [ inl h ↦ absurd (g i h p) | inr h ↦ absurd (f j h q) ]
+    ]
 
 module _ (k : Codings) (xs : List ℕ) where
   falls_once : (i j : ℕ) → FirstNotRising xs i → FirstNotRising xs j → i ≡ j
-  falls_once i j p q = smallest (λ n. rises_at xs n ≡ false) i j p.here q.here (λ n h f. both_ways (rises_at xs n) f (p.before n h)) (λ n h f. both_ways (rises_at xs n) f (q.before n h))
+  falls_once i j p q =
+      smallest (λ n. rises_at xs n ≡ false) i j p.here q.here
+      (λ n h f. both_ways (rises_at xs n) f (p.before n h))
+      (λ n h f. both_ways (rises_at xs n) f (q.before n h))
 
   missing_once : (c d : ℕ) → FirstMissing xs c → FirstMissing xs d → c ≡ d
-  missing_once c d p q = smallest (λ n. (on_list required n ≡ true) × (on_list xs n ≡ false)) c d (p.needed, p.absent) (q.needed, q.absent)
-      (λ n h f. both_ways (on_list xs n) f.1 (p.before n f.0 h)) (λ n h f. both_ways (on_list xs n) f.1 (q.before n f.0 h))
+  missing_once c d p q =
+      smallest (λ n. (on_list required n ≡ true) × (on_list xs n ≡ false)) c d (p.needed, p.absent)
+      (q.needed, q.absent)
+      (λ n h f. both_ways (on_list xs n) f.1 (p.before n f.0 h))
+      (λ n h f. both_ways (on_list xs n) f.1 (q.before n f.0 h))
 
   uncoded_once : (c d : ℕ) → FirstUncoded k xs c → FirstUncoded k xs d → c ≡ d
-  uncoded_once c d p q = smallest (λ n. (on_list xs n ≡ true) × (k.string n ≡ None)) c d (p.listed, p.uncoded) (q.listed, q.uncoded) (λ n h f. p.before n f.0 h f.1) (λ n h f. q.before n f.0 h f.1)
+  uncoded_once c d p q =
+      smallest (λ n. (on_list xs n ≡ true) × (k.string n ≡ None)) c d (p.listed, p.uncoded)
+      (q.listed, q.uncoded) (λ n h f. p.before n f.0 h f.1) (λ n h f. q.before n f.0 h f.1)
 
   -- what the grounds that come later have in common
-  short : (t : Told) → IsNotIncreasing xs t ⊎ (Lacking xs t ⊎ WithoutCoding k xs t) → length xs ≤ 512
+  short : (t : Told) → IsNotIncreasing xs t ⊎ (Lacking xs t ⊎ WithoutCoding k xs t)
+      → length xs ≤ 512
   short t (inl a) = a.2
   short t (inr (inl b)) = b.2
   short t (inr (inr c)) = c.2.0
@@ -37,13 +54,15 @@ module _ (k : Codings) (xs : List ℕ) where
   never_missing : (c : ℕ) → FirstMissing xs c → Complete xs → ⊥
   never_missing c p all = both_ways (on_list xs c) p.absent (all c p.needed)
 
-  one_of_two : (t u : Told) → Lacking xs t ⊎ WithoutCoding k xs t → Lacking xs u ⊎ WithoutCoding k xs u → t ≡ u
+  one_of_two : (t u : Told) → Lacking xs t ⊎ WithoutCoding k xs t
+      → Lacking xs u ⊎ WithoutCoding k xs u → t ≡ u
   one_of_two t u (inl a) (inl b) = let e = missing_once a.0 b.0 a.4 b.4 in a.1 ∙ rw e (sym b.1)
   one_of_two t u (inl a) (inr b) = absurd (never_missing a.0 a.4 b.2.2)
   one_of_two t u (inr a) (inl b) = absurd (never_missing b.0 b.4 a.2.2)
   one_of_two t u (inr a) (inr b) = let e = uncoded_once a.0 b.0 a.3 b.3 in a.1 ∙ rw e (sym b.1)
 
-  one_of_three : (t u : Told) → IsNotIncreasing xs t ⊎ (Lacking xs t ⊎ WithoutCoding k xs t) → IsNotIncreasing xs u ⊎ (Lacking xs u ⊎ WithoutCoding k xs u) → t ≡ u
+  one_of_three : (t u : Told) → IsNotIncreasing xs t ⊎ (Lacking xs t ⊎ WithoutCoding k xs t)
+      → IsNotIncreasing xs u ⊎ (Lacking xs u ⊎ WithoutCoding k xs u) → t ≡ u
   one_of_three t u (inl a) (inl b) = let e = falls_once a.0 b.0 a.3 b.3 in a.1 ∙ rw e (sym b.1)
   one_of_three t u (inl a) (inr b) = absurd (never_falls a.0 a.3 (rising u b))
   one_of_three t u (inr a) (inl b) = absurd (never_falls b.0 b.3 (rising t a))

@@ -1,4 +1,4 @@
--- The number of each cause of the layers' own, and its refusal. Assumes nothing.
+-- The number of each cause of the layers' own, and its refusal.
 use Rattle.std.specs.Prelude.{ℕ}
 use Rattle.charset.specs.declared.SetRefusal.{SetRefusal}
 use Rattle.layers.specs.declared.cause.Cause.{Cause}

@@ -1,4 +1,4 @@
--- Causes of a layer, its own and those from below. Assumes nothing.
+-- Causes of a layer, its own and those from below.
 use Rattle.std.specs.Prelude.{ℕ, ◌+◌, min, Ok, Err}
 use Rattle.charset.specs.declared.SetRefusal.{SetRefusal}
 use Rattle.charset.specs.Answers.{Answer}

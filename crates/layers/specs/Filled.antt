@@ -1,5 +1,6 @@
--- What becomes of a list that is filled with numbers. Assumes nothing.
-use Rattle.std.specs.Prelude.{◌≡◌, ℕ, ◌<◌, ◌≤◌, true, false, ◌⊎◌, List, length, Some, None, Ok, Err, Result, ◌≢◌}
+-- What becomes of a list that is filled with numbers.
+use Rattle.std.specs.Prelude.{◌≡◌, ℕ, ◌<◌, ◌≤◌, true, false, ◌⊎◌, List, length, Some, None, Ok, Err}
+use Rattle.std.specs.Prelude.{Result, ◌≢◌}
 use Rattle.charset.specs.Meaning.{Codings}
 use Rattle.layers.specs.declared.list.ListRefusal.{ListRefusal}
 use Rattle.layers.specs.CharacterList.{required, on_list, rises_at, Rising, Sound}
@@ -37,13 +38,17 @@ abbrev pub HasTooMany : List ℕ → Told → Type 0
 HasTooMany xs t = (t ≡ record { number = 10; value = None }) × (512 < length xs)
 
 abbrev pub IsNotIncreasing : List ℕ → Told → Type 0
-IsNotIncreasing xs t = (i : ℕ) × (t ≡ record { number = 11; value = Some i }) × (length xs ≤ 512) × FirstNotRising xs i
+IsNotIncreasing xs t =
+    (i : ℕ) × (t ≡ record { number = 11; value = Some i }) × (length xs ≤ 512) × FirstNotRising xs i
 
 abbrev pub Lacking : List ℕ → Told → Type 0
-Lacking xs t = (c : ℕ) × (t ≡ record { number = 12; value = Some c }) × (length xs ≤ 512) × Rising xs × FirstMissing xs c
+Lacking xs t =
+    (c : ℕ) × (t ≡ record { number = 12; value = Some c }) × (length xs ≤ 512) × Rising xs
+    × FirstMissing xs c
 
 abbrev pub WithoutCoding : Codings → List ℕ → Told → Type 0
-WithoutCoding k xs t = (c : ℕ) × (t ≡ record { number = 13; value = Some c }) × Sound xs × FirstUncoded k xs c
+WithoutCoding k xs t =
+    (c : ℕ) × (t ≡ record { number = 13; value = Some c }) × Sound xs × FirstUncoded k xs c
 
 -- the ground on which numbers are refused
 abbrev pub Ground : Codings → List ℕ → Told → Type 0
@@ -57,7 +62,8 @@ abbrev pub RefusedAs : Codings → List ℕ → Told → Type 0
 RefusedAs k xs t = Ground k xs t ⊎ WithoutMemory k xs t
 
 -- the list becomes the numbers, or it is refused and stays as it was
-abbrev pub Filled : {U : Type 0} → Codings → List ℕ → List ℕ → Result U ListRefusal → List ℕ → Type 0
+abbrev pub Filled : {U : Type 0} → Codings → List ℕ → List ℕ → Result U ListRefusal → List ℕ
+    → Type 0
 Filled k xs before (Ok _) after = Acceptable k xs × (after ≡ xs)
 Filled k xs before (Err why) after = RefusedAs k xs (told why) × (after ≡ before)
 

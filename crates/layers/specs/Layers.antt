@@ -1,5 +1,7 @@
--- The four layers, each a set made from a set. Assumes nothing.
-use Rattle.std.specs.Prelude.{ℕ, ◌+◌, ◌-◌, ◌%◌, Bool, true, false, cond, ◌&&◌, List, [], ◌∷◌, Some, None, Option, is_none, is_err, ◌==◌, count_ones, nat_le, nat_lt, slice_index_or}
+-- The four layers, each a set made from a set.
+use Rattle.std.specs.Prelude.{ℕ, ◌+◌, ◌-◌, ◌%◌, Bool, true, false, cond, ◌&&◌, List, [], ◌∷◌, Some}
+use Rattle.std.specs.Prelude.{None, Option, is_none, is_err, ◌==◌, count_ones, nat_le, nat_lt}
+use Rattle.std.specs.Prelude.{slice_index_or}
 use Rattle.std.specs.Option.{option_or}
 use Rattle.charset.specs.Meaning.{Meaning}
 use Rattle.charset.specs.Answers.{reading}
@@ -36,7 +38,9 @@ shift_step false x = cond (nat_lt x 0x80) (cond (x == 0x19) (Some Hold) (Some (E
 shift_step true x = cond (nat_le 0x20 x && nat_lt x 0x80) (Some (Emit (x + 0x80))) None
 
 abbrev pub shift_form : ℕ → Option Form
-shift_form b = cond (nat_lt b 0x80) (cond (b == 0x19) None (Some (One b))) (cond (nat_le 0xa0 b && nat_lt b 0x100) (Some (Two 0x19 (b - 0x80))) None)
+shift_form b =
+    cond (nat_lt b 0x80) (cond (b == 0x19) None (Some (One b)))
+    (cond (nat_le 0xa0 b && nat_lt b 0x100) (Some (Two 0x19 (b - 0x80))) None)
 
 abbrev pub shift_bytes : Recoding
 shift_bytes = record { step = shift_step; form = shift_form; fault = number_of NotShifted }
@@ -62,7 +66,9 @@ sub ds m = record {
 -- Controls: of those that are chosen, each that the set below refuses alone and does not write
 -- chosen is a choice of 00 to 1F, by number
 abbrev pub added : List Bool → Meaning → ℕ → Bool
-added chosen m c = (nat_lt c 0x20 && slice_index_or chosen c false) && (is_err (reading m (c ∷ [])) && is_none (m.codings.string c))
+added chosen m c =
+    (nat_lt c 0x20 && slice_index_or chosen c false) &&
+    (is_err (reading m (c ∷ [])) && is_none (m.codings.string c))
 
 abbrev pub control : List Bool → Meaning → List ℕ → Option ℕ
 control chosen m [] = None

@@ -1,5 +1,7 @@
--- A set under another form of its bytes: each byte below is written as one or two bytes here. Assumes nothing.
-use Rattle.std.specs.Prelude.{◌≡◌, ℕ, ◌<◌, Bool, true, false, cond, not, ◌&&◌, List, [], ◌∷◌, length, take, Some, None, Option, ◌≢◌, nat_le}
+-- A set under another form of its bytes: each byte below is written as one or two bytes here.
+--
+use Rattle.std.specs.Prelude.{◌≡◌, ℕ, ◌<◌, Bool, true, false, cond, not, ◌&&◌, List, [], ◌∷◌}
+use Rattle.std.specs.Prelude.{length, take, Some, None, Option, ◌≢◌, nat_le}
 use Rattle.charset.specs.declared.SetRefusal.{SetRefusal}
 use Rattle.charset.specs.Meaning.{Meaning}
 use Rattle.charset.specs.Answers.{reading}
@@ -15,7 +17,8 @@ use Rattle.layers.specs.Depth.{own, over}
 pub data End : Type 0 where
   clean pending broken : End
 
--- how bytes are read one by one, after a held byte (true) or not; how a byte below is written; and the cause of a wrong byte
+-- how bytes are read one by one, after a held byte (true) or not; how a byte below is written; and
+-- the cause of a wrong byte
 pub record Recoding : Type 0 where
   pub step : Bool → ℕ → Option Move
   pub form : ℕ → Option Form
@@ -70,24 +73,32 @@ shift_of r None = None
 shift_of r (Some t) = at_most_four (shifted r t)
 
 abbrev pub scan_cause : Recoding → Meaning → List ℕ → SetRefusal
-scan_cause r m s = over (reading m (below r false s)) (own (cond (is_broken (ends r false s)) r.fault (number_of TooLong)))
+scan_cause r m s =
+    over (reading m (below r false s))
+    (own (cond (is_broken (ends r false s)) r.fault (number_of TooLong)))
 
 abbrev pub recoded : Recoding → Meaning → Meaning
 recoded r m = record {
   codings = record {
-    character = λ s. cond (nat_le (length s) 4 && is_clean (ends r false s)) (m.codings.character (below r false s)) None;
+    character =
+        λ s. cond (nat_le (length s) 4 && is_clean (ends r false s))
+        (m.codings.character (below r false s)) None;
     string = λ c. shift_of r (m.codings.string c);
   };
-  openings = λ s. nat_le (length s) 3 && (not (is_broken (ends r false s)) && m.openings (below r false s));
+  openings =
+      λ s. nat_le (length s) 3 && (not (is_broken (ends r false s)) && m.openings
+      (below r false s));
   causes = λ s. scan_cause r m (take 4 s);
 }
 
 -- what the bytes' two directions must agree on
 pub record Agrees (r : Recoding) : Type 0 where
   pub one_step : (b x : ℕ) → r.form b ≡ Some (One x) → r.step false x ≡ Some (Emit b)
-  pub two_steps : (b x y : ℕ) → r.form b ≡ Some (Two x y) → (r.step false x ≡ Some Hold) × (r.step true y ≡ Some (Emit b))
+  pub two_steps : (b x y : ℕ) → r.form b ≡ Some (Two x y)
+      → (r.step false x ≡ Some Hold) × (r.step true y ≡ Some (Emit b))
   pub step_one : (b x : ℕ) → r.step false x ≡ Some (Emit b) → r.form b ≡ Some (One x)
-  pub step_two : (b x y : ℕ) → r.step false x ≡ Some Hold → r.step true y ≡ Some (Emit b) → r.form b ≡ Some (Two x y)
+  pub step_two : (b x y : ℕ) → r.step false x ≡ Some Hold → r.step true y ≡ Some (Emit b)
+      → r.form b ≡ Some (Two x y)
   pub no_third : (x : ℕ) → r.step true x ≢ Some Hold
   pub first_byte : (p : Bool) (x b : ℕ) → r.step p x ≡ Some (Emit b) → x < 256
   pub held_byte : (x : ℕ) → r.step false x ≡ Some Hold → x < 256

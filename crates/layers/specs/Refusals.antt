@@ -1,7 +1,8 @@
--- The number and the value that each refusal of a list is told by. Assumes nothing.
+-- The number and the value that each refusal of a list is told by.
 use Rattle.std.specs.Prelude.{ℕ, Some, None, Option}
 use Rattle.layers.specs.declared.list.ListRefusal.{ListRefusal}
-use Rattle.layers.specs.declared.list.ListRefusal.TheVariants.{TooMany, NotIncreasing, Missing, NoCoding, NoMemory}
+use Rattle.layers.specs.declared.list.ListRefusal.TheVariants.{TooMany, NotIncreasing, Missing}
+use Rattle.layers.specs.declared.list.ListRefusal.TheVariants.{NoCoding, NoMemory}
 
 pub record Told : Type 0 where
   pub number : ℕ

@@ -1,5 +1,6 @@
--- What the front of a string stands for below. Assumes nothing.
-use Rattle.std.specs.Prelude.{◌≡◌, ℕ, false, List, take, Some, None, Option, option_and_then, sum_by}
+-- What the front of a string stands for below.
+use Rattle.std.specs.Prelude.{◌≡◌, ℕ, false, List, take, Some, None, Option, option_and_then}
+use Rattle.std.specs.Prelude.{sum_by}
 use Rattle.charset.specs.Strings.{joined}
 use Rattle.layers.specs.declared.recoding.moves.Form.{Form}
 use Rattle.layers.specs.declared.recoding.moves.Form.TheVariants.{One, Two}

@@ -1,5 +1,7 @@
--- The layers' codings, openings and causes in plain words. Assumes nothing.
-use Rattle.std.specs.Prelude.{◌≡◌, ℕ, ◌+◌, ◌-◌, ◌%◌, ◌<◌, ◌≤◌, Bool, true, false, cond, ◌⊎◌, List, [], ◌∷◌, ◌++◌, map, length, None, Ok, ◌==◌, ◌≢◌, count_ones, slice_index_or}
+-- The layers' codings, openings and causes in plain words.
+use Rattle.std.specs.Prelude.{◌≡◌, ℕ, ◌+◌, ◌-◌, ◌%◌, ◌<◌, ◌≤◌, Bool, true, false, cond, ◌⊎◌, List}
+use Rattle.std.specs.Prelude.{[], ◌∷◌, ◌++◌, map, length, None, Ok, ◌==◌, ◌≢◌, count_ones}
+use Rattle.std.specs.Prelude.{slice_index_or}
 use Rattle.std.specs.List.{AllByRecursion}
 use Rattle.charset.specs.declared.Reading.TheVariants.{Found}
 use Rattle.charset.specs.Answers.{Reads}
@@ -19,7 +21,9 @@ InParity t s = AllByRecursion (λ b. b < 0x80) t × (s ≡ map in_parity t)
 -- s is t shifted
 abbrev pub Shifts : List ℕ → List ℕ → Type 0
 Shifts [] s = s ≡ []
-Shifts (b ∷ t) s = (rest : List ℕ) × Shifts t rest × (((b < 0x80) × (b ≢ 0x19) × (s ≡ b ∷ rest)) ⊎ ((0xa0 ≤ b) × (b < 0x100) × (s ≡ 0x19 ∷ (b - 0x80) ∷ rest)))
+Shifts (b ∷ t) s =
+    (rest : List ℕ) × Shifts t rest × (((b < 0x80) × (b ≢ 0x19) × (s ≡ b ∷ rest))
+    ⊎ ((0xa0 ≤ b) × (b < 0x100) × (s ≡ 0x19 ∷ (b - 0x80) ∷ rest)))
 
 -- s is t shifted, with or without one more 19
 abbrev pub BeginsShifted : List ℕ → List ℕ → Type 0
@@ -34,39 +38,56 @@ abbrev pub FailsAt : Meaning → (List ℕ → ℕ → Type 0) → List ℕ → 
 FailsAt m Fault s = (p rest : List ℕ) × (x : ℕ) × (s ≡ p ++ x ∷ rest) × Opens m p × Fault p x
 
 pub record ParityMeaning (m : Meaning) : Type 0 where
-  pub codes : (s : List ℕ) (c : ℕ) → Codes (parity m) s c → (t : List ℕ) × InParity t s × Codes m t c
+  pub codes : (s : List ℕ) (c : ℕ) → Codes (parity m) s c
+      → (t : List ℕ) × InParity t s × Codes m t c
   pub coded_by : (s t : List ℕ) (c : ℕ) → InParity t s → Codes m t c → Codes (parity m) s c
   pub opens : (s : List ℕ) → Opens (parity m) s → (t : List ℕ) × InParity t s × Opens m t
   pub opened_by : (s t : List ℕ) → InParity t s → Opens m t → Opens (parity m) s
   -- a byte with an odd number of ones, after an opening
-  pub cause_34 : (p rest : List ℕ) (x : ℕ) → Opens (parity m) p → count_ones x % 2 ≡ 1 → (parity m).causes (p ++ x ∷ rest) ≡ own 34
-  pub cause_below : (s t rest : List ℕ) → length s ≤ 4 → Unreadable m t → InParity t s → (parity m).causes (s ++ rest) ≡ up (m.causes t)
+  pub cause_34 : (p rest : List ℕ) (x : ℕ) → Opens (parity m) p → count_ones x % 2 ≡ 1
+      → (parity m).causes (p ++ x ∷ rest) ≡ own 34
+  pub cause_below : (s t rest : List ℕ) → length s ≤ 4 → Unreadable m t → InParity t s
+      → (parity m).causes (s ++ rest) ≡ up (m.causes t)
   -- there is no other cause
-  pub causes_only : (s : List ℕ) → AllByRecursion (λ b. b < 0x100) s → Unreadable (parity m) s → FailsAt (parity m) (λ p x. (count_ones x % 2 ≡ 1) ⊎ ((t : List ℕ) × InParity t (p ++ x ∷ []) × Unreadable m t)) s
+  pub causes_only : (s : List ℕ) → AllByRecursion (λ b. b < 0x100) s → Unreadable (parity m) s
+      → FailsAt (parity m) (λ p x. (count_ones x % 2 ≡ 1)
+      ⊎ ((t : List ℕ) × InParity t (p ++ x ∷ []) × Unreadable m t)) s
 
 pub record ShiftMeaning (m : Meaning) : Type 0 where
-  pub codes : (s : List ℕ) (c : ℕ) → Codes (shift m) s c → (t : List ℕ) × Shifts t s × Codes m t c × (length s ≤ 4)
-  pub coded_by : (s t : List ℕ) (c : ℕ) → Shifts t s → Codes m t c → length s ≤ 4 → Codes (shift m) s c
-  pub opens : (s : List ℕ) → Opens (shift m) s → (length s ≤ 3) × ((t : List ℕ) × Opens m t × BeginsShifted t s)
+  pub codes : (s : List ℕ) (c : ℕ) → Codes (shift m) s c
+      → (t : List ℕ) × Shifts t s × Codes m t c × (length s ≤ 4)
+  pub coded_by : (s t : List ℕ) (c : ℕ) → Shifts t s → Codes m t c → length s ≤ 4
+      → Codes (shift m) s c
+  pub opens : (s : List ℕ) → Opens (shift m) s
+      → (length s ≤ 3) × ((t : List ℕ) × Opens m t × BeginsShifted t s)
   pub opened_by : (s t : List ℕ) → length s ≤ 3 → Opens m t → BeginsShifted t s → Opens (shift m) s
   -- a byte that cannot go on after an opening
-  pub cause_35 : (p rest : List ℕ) (x : ℕ) → Opens (shift m) p → CannotFollow p x → (shift m).causes (p ++ x ∷ rest) ≡ own 35
+  pub cause_35 : (p rest : List ℕ) (x : ℕ) → Opens (shift m) p → CannotFollow p x
+      → (shift m).causes (p ++ x ∷ rest) ≡ own 35
   -- open after four bytes
-  pub cause_36 : (s t rest : List ℕ) → length s ≡ 4 → Opens m t → BeginsShifted t s → (shift m).causes (s ++ rest) ≡ own 36
+  pub cause_36 : (s t rest : List ℕ) → length s ≡ 4 → Opens m t → BeginsShifted t s
+      → (shift m).causes (s ++ rest) ≡ own 36
   -- a cause from below
-  pub cause_below : (s t rest : List ℕ) → length s ≤ 4 → Unreadable m t → Shifts t s → (shift m).causes (s ++ rest) ≡ up (m.causes t)
+  pub cause_below : (s t rest : List ℕ) → length s ≤ 4 → Unreadable m t → Shifts t s
+      → (shift m).causes (s ++ rest) ≡ up (m.causes t)
   -- there is no other cause
-  pub causes_only : (s : List ℕ) → Unreadable (shift m) s → FailsAt (shift m) (λ p x. CannotFollow p x ⊎ (((length p ≡ 3) × (t : List ℕ) × Opens m t × BeginsShifted t (p ++ x ∷ [])) ⊎ ((t : List ℕ) × Shifts t (p ++ x ∷ []) × Unreadable m t))) s
+  pub causes_only : (s : List ℕ) → Unreadable (shift m) s
+      → FailsAt (shift m)
+      (λ p x. CannotFollow p x
+      ⊎ (((length p ≡ 3) × (t : List ℕ) × Opens m t × BeginsShifted t (p ++ x ∷ []))
+      ⊎ ((t : List ℕ) × Shifts t (p ++ x ∷ []) × Unreadable m t))) s
 
 pub record SubMeaning (ds : List ℕ) (m : Meaning) : Type 0 where
   pub codes : (s : List ℕ) (c : ℕ) → Codes (sub ds m) s c → Codes m s c × (on_list ds c ≡ true)
   pub coded_by : (s : List ℕ) (c : ℕ) → Codes m s c → on_list ds c ≡ true → Codes (sub ds m) s c
   pub opens : (s : List ℕ) → (sub ds m).openings s ≡ m.openings s
   -- a character off the list
-  pub cause_37 : (s : List ℕ) (c n : ℕ) → Reads m s (Ok (Found c n)) → on_list ds c ≡ false → (sub ds m).causes s ≡ own 37
+  pub cause_37 : (s : List ℕ) (c n : ℕ) → Reads m s (Ok (Found c n)) → on_list ds c ≡ false
+      → (sub ds m).causes s ≡ own 37
   pub cause_below : (s : List ℕ) → Unreadable m s → (sub ds m).causes s ≡ up (m.causes s)
   -- there is no other cause
-  pub causes_only : (s : List ℕ) → Unreadable (sub ds m) s → Unreadable m s ⊎ ((c n : ℕ) × Reads m s (Ok (Found c n)) × (on_list ds c ≡ false))
+  pub causes_only : (s : List ℕ) → Unreadable (sub ds m) s
+      → Unreadable m s ⊎ ((c n : ℕ) × Reads m s (Ok (Found c n)) × (on_list ds c ≡ false))
 
 -- c is chosen, reading it alone below gives a cause, and writing it below gives none
 pub record Added (chosen : List Bool) (m : Meaning) (c : ℕ) : Type 0 where
@@ -76,7 +97,8 @@ pub record Added (chosen : List Bool) (m : Meaning) (c : ℕ) : Type 0 where
   pub unwritten : m.codings.string c ≡ None
 
 pub record ControlsMeaning (chosen : List Bool) (m : Meaning) : Type 0 where
-  pub codes : (s : List ℕ) (c : ℕ) → Codes (controls chosen m) s c → Codes m s c ⊎ ((s ≡ c ∷ []) × Added chosen m c)
+  pub codes : (s : List ℕ) (c : ℕ) → Codes (controls chosen m) s c
+      → Codes m s c ⊎ ((s ≡ c ∷ []) × Added chosen m c)
   pub coded_by : (s : List ℕ) (c : ℕ) → Codes m s c → Codes (controls chosen m) s c
   pub control_coded : (c : ℕ) → Added chosen m c → Codes (controls chosen m) (c ∷ []) c
   pub opens : (s : List ℕ) → (controls chosen m).openings s ≡ m.openings s

@@ -8,7 +8,8 @@ ghost use Rattle.layers.specs.LayersKeep.{controls_laws};
 use crate::deeper::from_below;
 use charset::{CharacterSet, Coding, Reading, SetRefusal};
 
-// Of the 32 control characters the chosen ones, each by its own byte: `chosen[c]` says whether U+00c is chosen.
+// Of the 32 control characters the chosen ones, each by its own byte: `chosen[c]` says whether
+// U+00c is chosen.
 #[derive(Clone, Copy)]
 pub struct Controls<S> {
     pub chosen: [bool; 32],
@@ -23,7 +24,8 @@ impl<S: CharacterSet> Controls<S> {
         self.below.read(&[byte]).is_err()
     }
 
-    // Whether a byte is chosen, and the set below refuses it alone and does not write its character.
+    // Whether a byte is chosen, and the set below refuses it alone and does not write its
+    // character.
     fn adds(&self, byte: u8) -> bool
         ensures { result ≡ added self.now.chosen (set_of S.CharacterSet self.now.below) byte }
     {

@@ -3,7 +3,8 @@ ghost use Rattle.std.specs.Prelude.{◌≡◌, ◌<◌, length, IfOk, MatchOptio
 ghost use Rattle.layers.specs.declared.list.ListRefusal.TheVariants.{NoMemory};
 ghost use Rattle.layers.specs.CharacterList.{required, on_list, rises_at, Rising, Complete, Sound};
 ghost use Rattle.layers.specs.Refusals.{told};
-ghost use Rattle.layers.specs.Filled.{FirstNotRising, FirstMissing, FirstUncoded, AllCoded, Acceptable, Ground, Filled, OneAnswer};
+ghost use Rattle.layers.specs.Filled.{FirstNotRising, FirstMissing, FirstUncoded, AllCoded};
+ghost use Rattle.layers.specs.Filled.{Acceptable, Ground, Filled, OneAnswer};
 
 use charset::CharacterSet;
 use std::alloc::{AllocError, Global};
@@ -32,7 +33,8 @@ const REQUIRED: [u32; 74] = [
 pub enum ListRefusal {
     // There are more than a list may have.
     TooMany,
-    // The number at this index is the first that is not above the one before it or lies over U+10FFFF.
+    // The number at this index is the first that is not above the one before it or lies over
+    // U+10FFFF.
     NotIncreasing(usize),
     // The smallest required character that is not among them.
     Missing(u32),
@@ -43,7 +45,8 @@ pub enum ListRefusal {
 }
 
 impl ListRefusal {
-    // The number that a refusal is told by. No `From`: the value that comes with it would be lost without a word.
+    // The number that a refusal is told by. No `From`: the value that comes with it would be lost
+    // without a word.
     pub fn number(&self) -> u8
         ensures { result ≡ (told self.now).number }
     {
@@ -65,7 +68,8 @@ impl From<AllocError> for ListRefusal {
     }
 }
 
-// Characters in increasing order, the required ones among them. In contracts a list is its characters.
+// Characters in increasing order, the required ones among them. In contracts a list is its
+// characters.
 #[derive(Drop)]
 pub struct CharacterList {
     characters: Vec<u32>,

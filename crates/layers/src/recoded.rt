@@ -23,7 +23,8 @@ pub struct Recoded<F, S> {
     pub below: S,
 }
 
-// The bytes below that the first four bytes stand for, up to one that cannot stand there. A loop, since a byte can end it and what is held goes on.
+// The bytes below that the first four bytes stand for, up to one that cannot stand there. A loop,
+// since a byte can end it and what is held goes on.
 fn scan_front<F: ByteForm>(form: &F, string: &[u8]) -> Scan
     ensures { Scans (F.ByteForm.recoding form.now) string.now result }
 {
@@ -76,7 +77,8 @@ fn append(front: Front, form: Form) -> Option<Front>
     }
 }
 
-// The bytes below as they are written here, if they take at most four. A loop with `?`: as a fold it is no shorter.
+// The bytes below as they are written here, if they take at most four. A loop with `?`: as a fold
+// it is no shorter.
 fn recode<F: ByteForm>(form: &F, bytes: &[u8]) -> Option<Front>
     ensures { result ≡ at_most_four (shifted (F.ByteForm.recoding form.now) bytes.now) }
 {

@@ -12,7 +12,8 @@ pub use moves::{Form, Move};
 pub trait ByteForm {
     ghost recoding: { Self → Recoding };
 
-    // What reading one more byte does, after a byte that is held or not; none if the byte cannot stand there.
+    // What reading one more byte does, after a byte that is held or not; none if the byte cannot
+    // stand there.
     fn step(&self, held: bool, byte: u8) -> Option<Move>
         ensures { result ≡ (recoding self.now).step held byte };
 

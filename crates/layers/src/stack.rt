@@ -1,4 +1,5 @@
-// Putting a layer on a set. On every set that keeps the laws the layer keeps them too, and means just what its clause says.
+// Putting a layer on a set. On every set that keeps the laws the layer keeps them too, and means
+// just what its clause says.
 ghost use Rattle.std.specs.Prelude.{◌≡◌};
 ghost use Rattle.charset.specs.Meaning.{Laws};
 ghost use Rattle.charset.specs.Sets.{set_of};
@@ -27,7 +28,8 @@ pub fn with_parity<S: CharacterSet>(below: S) -> Parity<S>
     }
 }
 
-// Not one function with `with_parity`: each promises what its own form means, which one for all forms cannot say.
+// Not one function with `with_parity`: each promises what its own form means, which one for all
+// forms cannot say.
 pub fn with_shift<S: CharacterSet>(below: S) -> Shift<S>
     ensures on { result.below ≡ below }
     ensures keeps_laws { Laws (shift (set_of S.CharacterSet below)) }

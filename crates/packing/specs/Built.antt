@@ -1,12 +1,14 @@
--- How a builder holds its pages. Assumes nothing.
-use Rattle.std.specs.Prelude.{◌≡◌, ℕ, ◌+◌, ◌*◌, ◌≤◌, List, [], ◌∷◌, ◌++◌, length, take, drop, sum_by}
+-- How a builder holds its pages.
+use Rattle.std.specs.Prelude.{◌≡◌, ℕ, ◌+◌, ◌*◌, ◌≤◌, List, [], ◌∷◌, ◌++◌, length, take, drop}
+use Rattle.std.specs.Prelude.{sum_by}
 use Rattle.packing.specs.declared.builder.Entry.{Entry}
 use Rattle.packing.specs.Packed.{Page, entry_of}
 
 -- the pages, cut from their bytes
 abbrev pub pages_in : List Entry → List ℕ → List Page
 pages_in [] bytes = []
-pages_in (e ∷ es) bytes = record { form = e.form; bytes = take e.size bytes } ∷ pages_in es (drop e.size bytes)
+pages_in (e ∷ es) bytes =
+    record { form = e.form; bytes = take e.size bytes } ∷ pages_in es (drop e.size bytes)
 
 -- the entries' sizes add up to all bytes, and a roll can hold them
 pub record IsBuilt (entries : List Entry) (bytes : List ℕ) : Type 0 where

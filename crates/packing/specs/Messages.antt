@@ -1,7 +1,8 @@
--- What is said of a page that a roll cannot hold. Assumes nothing.
+-- What is said of a page that a roll cannot hold.
 use Rattle.std.specs.Prelude.{ℕ, List, codes}
 use Rattle.packing.specs.declared.refusal.PackRefusal.{PackRefusal}
-use Rattle.packing.specs.declared.refusal.PackRefusal.TheVariants.{UnknownForm, TooManyPages, TooLong, NoMemory}
+use Rattle.packing.specs.declared.refusal.PackRefusal.TheVariants.{UnknownForm, TooManyPages}
+use Rattle.packing.specs.declared.refusal.PackRefusal.TheVariants.{TooLong, NoMemory}
 
 abbrev pub message : PackRefusal → List ℕ
 message UnknownForm = codes "a form is a number from 0 to 7"

@@ -1,7 +1,9 @@
--- The bytes of a roll as it is packed. Assumes nothing.
-use Rattle.std.specs.Prelude.{ℕ, ◌+◌, ◌*◌, ◌/◌, ◌%◌, ◌<◌, ◌≤◌, List, [], ◌∷◌, ◌++◌, length, Ok, Err, Result}
+-- The bytes of a roll as it is packed.
+use Rattle.std.specs.Prelude.{ℕ, ◌+◌, ◌*◌, ◌/◌, ◌%◌, ◌<◌, ◌≤◌, List, [], ◌∷◌, ◌++◌, length, Ok, Err}
+use Rattle.std.specs.Prelude.{Result}
 use Rattle.packing.specs.declared.refusal.PackRefusal.{PackRefusal}
-use Rattle.packing.specs.declared.refusal.PackRefusal.TheVariants.{UnknownForm, TooManyPages, TooLong, NoMemory}
+use Rattle.packing.specs.declared.refusal.PackRefusal.TheVariants.{UnknownForm, TooManyPages}
+use Rattle.packing.specs.declared.refusal.PackRefusal.TheVariants.{TooLong, NoMemory}
 
 pub record Page : Type 0 where
   pub form : ℕ
@@ -23,11 +25,13 @@ bytes_of (p ∷ ps) = p.bytes ++ bytes_of ps
 -- the index of pages of which the first begins at an offset
 abbrev pub index_from : (offset : ℕ) → List Page → List ℕ
 index_from offset [] = []
-index_from offset (p ∷ ps) = entry_of offset (length p.bytes) p.form ++ index_from (offset + length p.bytes) ps
+index_from offset (p ∷ ps) =
+    entry_of offset (length p.bytes) p.form ++ index_from (offset + length p.bytes) ps
 
 -- the trailer: the index begins where the pages end, which is the total of their lengths too
 abbrev pub trailer_of : (total count : ℕ) → List ℕ
-trailer_of total count = in_four total ++ (in_four count ++ (in_four total ++ (0x52 ∷ 0x4f ∷ 0x4c ∷ 0x4c ∷ [])))
+trailer_of total count =
+    in_four total ++ (in_four count ++ (in_four total ++ (0x52 ∷ 0x4f ∷ 0x4c ∷ 0x4c ∷ [])))
 
 -- the pages, the index and the trailer
 abbrev pub packed : List Page → List ℕ
@@ -46,5 +50,7 @@ abbrev pub RoomFor : {X : Type 0} → (form count used size : ℕ) → Result X 
 RoomFor form count used size (Ok b) = (form ≤ 7) × (count < 1024) × (used + 28 + size ≤ 1048576)
 RoomFor form count used size (Err UnknownForm) = 7 < form
 RoomFor form count used size (Err TooManyPages) = (form ≤ 7) × (1024 ≤ count)
-RoomFor form count used size (Err TooLong) = (form ≤ 7) × (count < 1024) × (1048576 < used + 28 + size)
-RoomFor form count used size (Err NoMemory) = (form ≤ 7) × (count < 1024) × (used + 28 + size ≤ 1048576)
+RoomFor form count used size (Err TooLong) =
+    (form ≤ 7) × (count < 1024) × (1048576 < used + 28 + size)
+RoomFor form count used size (Err NoMemory) =
+    (form ≤ 7) × (count < 1024) × (used + 28 + size ≤ 1048576)

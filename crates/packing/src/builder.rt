@@ -7,7 +7,8 @@ use crate::refusal::PackRefusal;
 use std::alloc::{AllocError, Global};
 use std::marker::Model;
 
-// The limits of the format are written here again, so that this crate needs nothing of what reads rolls.
+// The limits of the format are written here again, so that this crate needs nothing of what reads
+// rolls.
 const LAST_FORM: u8 = 7;
 
 const MOST_PAGES: usize = 1_024;
@@ -76,7 +77,8 @@ impl Builder {
         self.bytes.len() + ENTRY_BYTES * self.entries.len() + TRAILER_BYTES
     }
 
-    // One page more, behind the others. The form is any number: that one above 7 is refused is a part of the promise.
+    // One page more, behind the others. The form is any number: that one above 7 is refused is a
+    // part of the promise.
     #[tactic(auto, using(crate::proofs::Built::pages_in_push))]
     pub fn with_page(self, form: u8, page: &[u8]) -> Result<Builder, PackRefusal>
         ensures fits { FitsRoll self }

@@ -1,4 +1,4 @@
--- The worked examples, by computing. Assumes nothing.
+-- The worked examples, by computing.
 use Rattle.std.proofs.Common.{◌≡◌, ℕ, List, [], ◌∷◌, Ok, Err, refl}
 use lib.Count.{ones}
 use Rattle.charset.specs.declared.Reading.TheVariants.{Found, Open}
@@ -26,10 +26,14 @@ worked_examples = record {
   acute_stop = by_reading iso6937_laws (0xc2 ∷ 0x2e ∷ []) (Err (refusal NoPair)) refl;
   unused = by_reading iso6937_laws (0xe5 ∷ []) (Err (refusal NotInUse)) refl;
   no_eth = refl;
-  shifted_e_acute = by_reading (shift_laws iso6937_laws) (0x19 ∷ 0x42 ∷ 0x65 ∷ []) (Ok (Found 0xe9 3)) refl;
+  shifted_e_acute =
+      by_reading (shift_laws iso6937_laws) (0x19 ∷ 0x42 ∷ 0x65 ∷ []) (Ok (Found 0xe9 3)) refl;
   two_shifts = by_reading (shift_laws iso6937_laws) (0x19 ∷ 0x19 ∷ []) (Err (own 35)) refl;
   parity_e_acute = refl;
   odd_byte = by_reading (parity_laws (shift_laws iso6937_laws)) (0x19 ∷ []) (Err (own 34)) refl;
-  two_shifts_below = by_reading (parity_laws (shift_laws iso6937_laws)) (0x99 ∷ 0x99 ∷ []) (Err (up (own 35))) refl;
-  open_after_four = by_reading (shift_laws utf8_laws) (0x19 ∷ 0x62 ∷ 0x19 ∷ 0x20 ∷ []) (Err (own 36)) refl;
+  two_shifts_below =
+      by_reading (parity_laws (shift_laws iso6937_laws)) (0x99 ∷ 0x99 ∷ []) (Err (up (own 35)))
+      refl;
+  open_after_four =
+      by_reading (shift_laws utf8_laws) (0x19 ∷ 0x62 ∷ 0x19 ∷ 0x20 ∷ []) (Err (own 36)) refl;
 }

@@ -1,4 +1,4 @@
--- Worked examples. Assumes nothing.
+-- Worked examples.
 use Rattle.std.specs.Prelude.{◌≡◌, [], ◌∷◌, Some, None, Ok, Err}
 use Rattle.charset.specs.declared.Reading.TheVariants.{Found, Open}
 use Rattle.charset.specs.Answers.{Reads}
@@ -7,7 +7,8 @@ use Rattle.sets.specs.Utf8.{utf8}
 use Rattle.layers.specs.Layers.{parity, shift}
 
 pub record WorkedExamples : Type 0 where
-  -- ISO/IEC 6937: e with acute, an acute alone, an acute before a full stop, a position not in use, capital eth
+  -- ISO/IEC 6937: e with acute, an acute alone, an acute before a full stop, a position not in use,
+  -- capital eth
   pub e_acute : Reads iso6937 (0xc2 ∷ 0x65 ∷ []) (Ok (Found 0xe9 2))
   pub acute_open : Reads iso6937 (0xc2 ∷ []) (Ok Open)
   pub acute_stop : Reads iso6937 (0xc2 ∷ 0x2e ∷ []) (Err (record { cause = 32; depth = 0 }))
@@ -16,9 +17,12 @@ pub record WorkedExamples : Type 0 where
   -- shift over ISO/IEC 6937: e with acute in seven bits, and two shifts in a row
   pub shifted_e_acute : Reads (shift iso6937) (0x19 ∷ 0x42 ∷ 0x65 ∷ []) (Ok (Found 0xe9 3))
   pub two_shifts : Reads (shift iso6937) (0x19 ∷ 0x19 ∷ []) (Err (record { cause = 35; depth = 0 }))
-  -- parity over that: the same with parity, a byte with an odd number of ones, and two shifts one layer down
+  -- parity over that: the same with parity, a byte with an odd number of ones, and two shifts one
+  -- layer down
   pub parity_e_acute : (parity (shift iso6937)).codings.string 0xe9 ≡ Some (0x99 ∷ 0x42 ∷ 0x65 ∷ [])
   pub odd_byte : Reads (parity (shift iso6937)) (0x19 ∷ []) (Err (record { cause = 34; depth = 0 }))
-  pub two_shifts_below : Reads (parity (shift iso6937)) (0x99 ∷ 0x99 ∷ []) (Err (record { cause = 35; depth = 1 }))
+  pub two_shifts_below : Reads (parity (shift iso6937)) (0x99 ∷ 0x99 ∷ [])
+      (Err (record { cause = 35; depth = 1 }))
   -- shift over UTF-8: open after four bytes
-  pub open_after_four : Reads (shift utf8) (0x19 ∷ 0x62 ∷ 0x19 ∷ 0x20 ∷ []) (Err (record { cause = 36; depth = 0 }))
+  pub open_after_four : Reads (shift utf8) (0x19 ∷ 0x62 ∷ 0x19 ∷ 0x20 ∷ [])
+      (Err (record { cause = 36; depth = 0 }))

@@ -1,4 +1,4 @@
--- The control characters of a page. Assumes nothing.
+-- The control characters of a page.
 use Rattle.std.specs.Prelude.{Bool, true, false, List, ◌∷◌, ◌++◌, replicate}
 
 -- of 00 to 1F just 09, 0A, 0C and 0D

@@ -1,5 +1,5 @@
-// Stacks of layers on a page, and the worked examples of sets and layers. That each stack is a character set follows from
-// its type alone.
+// Stacks of layers on a page, and the worked examples of sets and layers. That each stack is a
+// character set follows from its type alone.
 #![tactic(auto)]
 
 ghost use Rattle.charset.specs.Sets.{set_of};
@@ -19,7 +19,8 @@ pub const PAGE_CONTROLS: [bool; 32] = [
     false, false, false, false, false, false, false, false, false, false, false, false, false, false, false, false,
 ];
 
-// What stands in front of a page of 7-bit ISO/IEC 6937 with the controls of a page, all under parity.
+// What stands in front of a page of 7-bit ISO/IEC 6937 with the controls of a page, all under
+// parity.
 pub fn read_with_parity(bytes: &[u8]) -> Result<Reading, SetRefusal>
     ensures { ReadByLaws (parity (controls page_controls (shift iso6937))) bytes.now result }
 {
@@ -27,7 +28,8 @@ pub fn read_with_parity(bytes: &[u8]) -> Result<Reading, SetRefusal>
     read_front(&stack, bytes)
 }
 
-// What stands in front of bytes under three layers, on any set. The controls lie under shift here, as they may: layers stack in any order.
+// What stands in front of bytes under three layers, on any set. The controls lie under shift here,
+// as they may: layers stack in any order.
 pub fn read_three_deep<S: CharacterSet + Drop>(
     chosen: [bool; 32],
     below: S,

@@ -1,7 +1,8 @@
--- The number of each form of text. Assumes nothing.
+-- The number of each form of text.
 use Rattle.std.specs.Prelude.{◌≡◌, ℕ, ◌<◌, ◌⊎◌, Ok, Err, Result}
 use Rattle.pages.specs.declared.page.Form.{Form}
-use Rattle.pages.specs.declared.page.Form.TheVariants.{EightBit, SevenBit, SevenBitParity, Latin10, Sami, Unicode, Basic}
+use Rattle.pages.specs.declared.page.Form.TheVariants.{EightBit, SevenBit, SevenBitParity, Latin10}
+use Rattle.pages.specs.declared.page.Form.TheVariants.{Sami, Unicode, Basic}
 use Rattle.pages.specs.declared.page.UnknownForm.{UnknownForm}
 
 abbrev pub form_number : Form → ℕ

@@ -13,7 +13,8 @@ pub enum RollFault {
     NoMark,
     // More than 1,024 pages, or the index does not end just where the trailer begins.
     WrongIndex,
-    // The first entry, from 1, that breaks a rule; 0 where there are no pages and the index does not begin at 0.
+    // The first entry, from 1, that breaks a rule; 0 where there are no pages and the index does
+    // not begin at 0.
     BadEntry(u32),
     // The total is not the sum of the lengths.
     WrongTotal,
@@ -32,8 +33,8 @@ impl From<(u32, FaultAt)> for RollFault {
     }
 }
 
-// A refusal by its number and its values, as an answer prints them and the table of refusals lists them: numbers and no enum. A value that does
-// not come with the number is 0.
+// A refusal by its number and its values, as an answer prints them and the table of refusals lists
+// them: numbers and no enum. A value that does not come with the number is 0.
 #[derive(Clone, Copy, PartialEq, Eq, Debug, Default)]
 pub struct RollTold {
     pub number: u8,

@@ -1,4 +1,5 @@
-// From one form of text into another, from standard input to standard output: `recode SOURCE TARGET`.
+// From one form of text into another, from standard input to standard output: `recode SOURCE
+// TARGET`.
 #![tactic(auto)]
 
 use answers::{FaultAt, Told};

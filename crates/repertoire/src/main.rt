@@ -1,4 +1,5 @@
-// Prints all that ISO/IEC 6937 reads in one and two bytes, and all that it writes, with equal neighbours on one line.
+// Prints all that ISO/IEC 6937 reads in one and two bytes, and all that it writes, with equal
+// neighbours on one line.
 #![tactic(auto)]
 
 use charset::{CharacterSet, Coding, Reading, SetRefusal};

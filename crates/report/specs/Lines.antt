@@ -1,5 +1,6 @@
--- The line on how a page went. Assumes nothing.
-use Rattle.std.specs.Prelude.{ℕ, List, [], ◌∷◌, ◌++◌, Some, None, Ok, Err, codes, decimal, Option, Result}
+-- The line on how a page went.
+use Rattle.std.specs.Prelude.{ℕ, List, [], ◌∷◌, ◌++◌, Some, None, Ok, Err, codes, decimal, Option}
+use Rattle.std.specs.Prelude.{Result}
 use Rattle.pages.specs.declared.fault.RollFault.{RollFault}
 use Rattle.pages.specs.declared.page.Form.{Form}
 use Rattle.pages.specs.Forms.{form_number}
@@ -11,11 +12,18 @@ form_told None = 0
 form_told (Some f) = form_number f
 
 -- page number, form and characters, then ok, or the refusal, @ and the offset
-abbrev pub line_of : (number : ℕ) (form : Option Form) (characters : ℕ) → Result (Unit {0}) RollFault → List ℕ
-line_of n form characters (Ok u) = decimal n ++ (codes " " ++ (decimal (form_told form) ++ (codes " " ++ (decimal characters ++ codes " ok"))))
+abbrev pub line_of : (number : ℕ) (form : Option Form) (characters : ℕ)
+    → Result (Unit {0}) RollFault → List ℕ
+line_of n form characters (Ok u) =
+    decimal n ++ (codes " " ++ (decimal (form_told form)
+    ++ (codes " " ++ (decimal characters ++ codes " ok"))))
 line_of n form characters (Err f) =
-    decimal n ++ (codes " " ++ (decimal (form_told form) ++ (codes " " ++ (decimal characters ++ (codes " " ++ (decimal (told f).number ++ (codes "@" ++ decimal (told f).offset)))))))
+    decimal n ++ (codes " " ++ (decimal (form_told form)
+    ++ (codes " "
+    ++ (decimal characters
+    ++ (codes " " ++ (decimal (told f).number ++ (codes "@" ++ decimal (told f).offset)))))))
 
 -- the text of a page, its line, and a line feed behind each
-abbrev pub block_of : (text : List ℕ) → (number : ℕ) (form : Option Form) (characters : ℕ) → Result (Unit {0}) RollFault → List ℕ
+abbrev pub block_of : (text : List ℕ) → (number : ℕ) (form : Option Form) (characters : ℕ)
+    → Result (Unit {0}) RollFault → List ℕ
 block_of text n form characters r = text ++ (0x0a ∷ line_of n form characters r ++ (0x0a ∷ []))

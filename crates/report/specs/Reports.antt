@@ -1,5 +1,6 @@
--- What is written of a roll. Assumes nothing.
-use Rattle.std.specs.Prelude.{◌≡◌, ℕ, zero, suc, ◌+◌, ◌<◌, ◌≤◌, ◌⊎◌, List, [], ◌∷◌, ◌++◌, length, Ok, Err, decimal, Result}
+-- What is written of a roll.
+use Rattle.std.specs.Prelude.{◌≡◌, ℕ, zero, suc, ◌+◌, ◌<◌, ◌≤◌, ◌⊎◌, List, [], ◌∷◌, ◌++◌, length}
+use Rattle.std.specs.Prelude.{Ok, Err, decimal, Result}
 use Rattle.pages.specs.declared.fault.RollFault.{RollFault}
 use Rattle.pages.specs.declared.fault.RollFault.TheVariants.{WrongSize}
 use Rattle.pages.specs.declared.page.Page.{Page}
@@ -27,7 +28,8 @@ PageWritten b k block = (page : Page) × PartAt b k page × PageBlock (k + 1) pa
 -- the first pages, one behind the other
 abbrev pub PagesWritten : List ℕ → ℕ → List ℕ → Type 0
 PagesWritten b zero out = out ≡ []
-PagesWritten b (suc k) out = (front block : List ℕ) × PagesWritten b k front × PageWritten b k block × (out ≡ front ++ block)
+PagesWritten b (suc k) out =
+    (front block : List ℕ) × PagesWritten b k front × PageWritten b k block × (out ≡ front ++ block)
 
 -- a number alone on a line
 abbrev pub number_line : ℕ → List ℕ
@@ -38,8 +40,10 @@ abbrev pub Opens : List ℕ → Result Roll RollFault → Type 0
 Opens b (Ok roll) = (length b ≤ 65536) × (bytes_of roll ≡ b)
 Opens b (Err e) = ((65536 < length b) × (e ≡ WrongSize)) ⊎ ((length b ≤ 65536) × Refuses b e)
 
--- an input over 65,536 bytes is answered by 14, a refused roll by its number, and any other by its pages
+-- an input over 65,536 bytes is answered by 14, a refused roll by its number, and any other by its
+-- pages
 abbrev pub Reports : List ℕ → List ℕ → Type 0
 Reports b out =
     ((65536 < length b) × (out ≡ number_line 14))
-    ⊎ ((length b ≤ 65536) × (((e : RollFault) × Refuses b e × (out ≡ number_line (told e).number)) ⊎ (Accepted b × PagesWritten b (page_count b) out)))
+    ⊎ ((length b ≤ 65536) × (((e : RollFault) × Refuses b e × (out ≡ number_line (told e).number))
+    ⊎ (Accepted b × PagesWritten b (page_count b) out)))

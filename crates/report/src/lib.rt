@@ -34,7 +34,8 @@ pub fn line(heap: Global, number: u32, page: &PageText) -> Result<String, AllocE
     }
 }
 
-// The text of a page and its line, each with a line feed behind. The number is a parameter: a page knows none.
+// The text of a page and its line, each with a line feed behind. The number is a parameter: a page
+// knows none.
 pub fn block(heap: Global, number: u32, page: &Page) -> Result<Vec<u8>, AllocError>
     ensures { IfOk result (λ out. PageBlock number page.now out.items) }
 {

@@ -1,4 +1,4 @@
--- What an entry of the index tells. Assumes nothing.
+-- What an entry of the index tells.
 use Rattle.std.specs.Prelude.{◌≡◌, ℕ, ◌+◌, true, false, List, Result, MatchResult}
 use Rattle.pages.specs.declared.fault.RollFault.{RollFault}
 use Rattle.pages.specs.declared.fault.RollFault.TheVariants.{BadEntry}
@@ -7,8 +7,12 @@ use Rattle.roll.specs.Format.{offset, size, form, padded, starts, entry_holds}
 
 -- an entry, by its place from 0
 abbrev pub EntryAt : List ℕ → ℕ → Entry → Type 0
-EntryAt b k e = (e.offset ≡ offset b k) × (e.end ≡ offset b k + size b k) × (e.form ≡ form b k) × (e.padded ≡ padded b k)
+EntryAt b k e =
+    (e.offset ≡ offset b k) × (e.end ≡ offset b k + size b k) × (e.form ≡ form b k)
+    × (e.padded ≡ padded b k)
 
 -- where the page after it would start, or that the entry breaks a rule
 abbrev pub CheckedEnd : List ℕ → ℕ → Result ℕ RollFault → Type 0
-CheckedEnd b k r = MatchResult r (λ end. (entry_holds b k ≡ true) × (end ≡ starts b (k + 1))) (λ e. (entry_holds b k ≡ false) × (e ≡ BadEntry (k + 1)))
+CheckedEnd b k r =
+    MatchResult r (λ end. (entry_holds b k ≡ true) × (end ≡ starts b (k + 1)))
+    (λ e. (entry_holds b k ≡ false) × (e ≡ BadEntry (k + 1)))

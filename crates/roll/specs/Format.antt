@@ -1,11 +1,15 @@
--- The format of a roll: pages, then an index, then a trailer of sixteen bytes. Assumes nothing.
-use Rattle.std.specs.Prelude.{◌≡◌, ℕ, zero, suc, ◌+◌, ◌-◌, ◌*◌, ◌<◌, ◌≤◌, Bool, true, cond, ◌&&◌, List, [], ◌++◌, length, take, drop, ◌==◌, nat_le, slice_index}
+-- The format of a roll: pages, then an index, then a trailer of sixteen bytes.
+use Rattle.std.specs.Prelude.{◌≡◌, ℕ, zero, suc, ◌+◌, ◌-◌, ◌*◌, ◌<◌, ◌≤◌, Bool, true, cond, ◌&&◌}
+use Rattle.std.specs.Prelude.{List, [], ◌++◌, length, take, drop, ◌==◌, nat_le, slice_index}
 
 -- a number of four bytes, the highest first
 abbrev pub word : List ℕ → ℕ → ℕ
-word b i = ((slice_index b i * 256 + slice_index b (i + 1)) * 256 + slice_index b (i + 2)) * 256 + slice_index b (i + 3)
+word b i =
+    ((slice_index b i * 256 + slice_index b (i + 1)) * 256 + slice_index b (i + 2)) * 256 +
+    slice_index b (i + 3)
 
--- the trailer: where the index begins, how many pages there are, the total of their lengths, and a mark
+-- the trailer: where the index begins, how many pages there are, the total of their lengths, and a
+-- mark
 abbrev pub index_offset : List ℕ → ℕ
 index_offset b = word b (length b - 16)
 
@@ -18,7 +22,8 @@ total b = word b (length b - 8)
 abbrev pub mark : List ℕ → ℕ
 mark b = word b (length b - 4)
 
--- an entry of the index, by its place from 0, has twelve bytes: offset, length, form, and three bytes 00
+-- an entry of the index, by its place from 0, has twelve bytes: offset, length, form, and three
+-- bytes 00
 abbrev pub entry : List ℕ → ℕ → ℕ
 entry b k = index_offset b + 12 * k
 
@@ -32,7 +37,9 @@ abbrev pub form : List ℕ → ℕ → ℕ
 form b k = slice_index b (entry b k + 8)
 
 abbrev pub padded : List ℕ → ℕ → Bool
-padded b k = slice_index b (entry b k + 9) == 0 && (slice_index b (entry b k + 10) == 0 && slice_index b (entry b k + 11) == 0)
+padded b k =
+    slice_index b (entry b k + 9) == 0 &&
+    (slice_index b (entry b k + 10) == 0 && slice_index b (entry b k + 11) == 0)
 
 -- a page starts where the one before ends, and the first at 0
 abbrev pub starts : List ℕ → ℕ → ℕ

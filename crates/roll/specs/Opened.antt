@@ -1,13 +1,18 @@
--- What opening a roll answers. Assumes nothing.
+-- What opening a roll answers.
 use Rattle.std.specs.Prelude.{◌≡◌, ℕ, zero, suc, ◌<◌, true, false, List, take, Ok, Err, Result, ◌≢◌}
 use Rattle.pages.specs.declared.fault.RollFault.{RollFault}
-use Rattle.pages.specs.declared.fault.RollFault.TheVariants.{WrongSize, NoMark, WrongIndex, BadEntry, WrongTotal, NoSuchPage, Faulted}
-use Rattle.roll.specs.Format.{index_offset, page_count, entry_holds, sizes, Sized, Marked, Indexed, NoPagesNoBytes, Entries, Totalled, joined}
+use Rattle.pages.specs.declared.fault.RollFault.TheVariants.{WrongSize, NoMark, WrongIndex}
+use Rattle.pages.specs.declared.fault.RollFault.TheVariants.{BadEntry, WrongTotal, NoSuchPage}
+use Rattle.pages.specs.declared.fault.RollFault.TheVariants.{Faulted}
+use Rattle.roll.specs.Format.{index_offset, page_count, entry_holds, sizes, Sized, Marked, Indexed}
+use Rattle.roll.specs.Format.{NoPagesNoBytes, Entries, Totalled, joined}
 
--- the first entry, from 1, that breaks a rule; 0 where there are no pages and the index does not begin at 0
+-- the first entry, from 1, that breaks a rule; 0 where there are no pages and the index does not
+-- begin at 0
 abbrev pub FirstBad : List ℕ → ℕ → Type 0
 FirstBad b zero = (page_count b ≡ 0) × (index_offset b ≢ 0)
-FirstBad b (suc k) = (k < page_count b) × ((i : ℕ) → i < k → entry_holds b i ≡ true) × (entry_holds b k ≡ false)
+FirstBad b (suc k) =
+    (k < page_count b) × ((i : ℕ) → i < k → entry_holds b i ≡ true) × (entry_holds b k ≡ false)
 
 -- the sum of the lengths, where every entry keeps the rules
 abbrev pub Checked : List ℕ → Result ℕ RollFault → Type 0
@@ -26,7 +31,8 @@ Refuses b WrongSize = Sized b → ⊥
 Refuses b NoMark = Sized b × (Marked b → ⊥)
 Refuses b WrongIndex = Sized b × Marked b × (Indexed b → ⊥)
 Refuses b (BadEntry n) = Sized b × Marked b × Indexed b × FirstBad b n
-Refuses b WrongTotal = Sized b × Marked b × Indexed b × NoPagesNoBytes b × Entries b × (Totalled b → ⊥)
+Refuses b WrongTotal =
+    Sized b × Marked b × Indexed b × NoPagesNoBytes b × Entries b × (Totalled b → ⊥)
 Refuses b NoSuchPage = ⊥
 Refuses b (Faulted page fault) = ⊥
 

@@ -1,7 +1,9 @@
--- Which part of a roll a page is. Assumes nothing.
+-- Which part of a roll a page is.
 use Rattle.std.specs.Prelude.{◌≡◌, ℕ, ◌-◌, ◌<◌, ◌≤◌, ◌⊎◌, List, Ok, Err, Result}
 use Rattle.pages.specs.declared.fault.RollFault.{RollFault}
-use Rattle.pages.specs.declared.fault.RollFault.TheVariants.{WrongSize, NoMark, WrongIndex, BadEntry, WrongTotal, NoSuchPage, Faulted}
+use Rattle.pages.specs.declared.fault.RollFault.TheVariants.{WrongSize, NoMark, WrongIndex}
+use Rattle.pages.specs.declared.fault.RollFault.TheVariants.{BadEntry, WrongTotal, NoSuchPage}
+use Rattle.pages.specs.declared.fault.RollFault.TheVariants.{Faulted}
 use Rattle.pages.specs.declared.page.Page.{Page}
 use Rattle.pages.specs.declared.page.Page.TheVariants.{Text, Picture}
 use Rattle.pages.specs.Forms.{form_number}
@@ -9,7 +11,8 @@ use Rattle.roll.specs.Format.{page_count, offset, form, page_bytes}
 
 -- the page is the part of the roll that its entry, the k-th from 0, tells, with its offset
 abbrev pub PartAt : List ℕ → ℕ → Page → Type 0
-PartAt b k (Text f part at) = (form b k ≡ form_number f) × (part.now ≡ page_bytes b k) × (at ≡ offset b k)
+PartAt b k (Text f part at) =
+    (form b k ≡ form_number f) × (part.now ≡ page_bytes b k) × (at ≡ offset b k)
 PartAt b k (Picture part at) = (form b k ≡ 0) × (part.now ≡ page_bytes b k) × (at ≡ offset b k)
 
 -- pages count from 1

@@ -1,4 +1,4 @@
--- A roll, seen as its bytes. Assumes nothing.
+-- A roll, seen as its bytes.
 use Rattle.std.specs.Prelude.{ℕ, List}
 use Rattle.roll.specs.declared.roll.Roll.{Roll}
 

@@ -13,8 +13,8 @@ pub(crate) fn word_at(bytes: &[u8], at: usize) -> u32
     u32::from_be_bytes([bytes[at], bytes[at + 1], bytes[at + 2], bytes[at + 3]])
 }
 
-// What an entry tells, whether it keeps the rules or not: where its page begins and ends, its form, whatever number that is, and whether the three
-// bytes behind are 00.
+// What an entry tells, whether it keeps the rules or not: where its page begins and ends, its form,
+// whatever number that is, and whether the three bytes behind are 00.
 #[derive(Clone, Copy)]
 pub(crate) struct Entry {
     pub(crate) offset: usize,
@@ -54,7 +54,8 @@ impl Index<'_> {
         }
     }
 
-    // Where the page of an entry ends, if the entry keeps the rules and the page before ends at `start`.
+    // Where the page of an entry ends, if the entry keeps the rules and the page before ends at
+    // `start`.
     fn checked_end(&self, place: usize, start: usize) -> Result<usize, RollFault>
         requires below { place < self.now.count }
         requires follows { start ≡ starts self.now.bytes.now place }
@@ -71,8 +72,8 @@ impl Index<'_> {
         Ok(entry.end)
     }
 
-    // Where the last page ends, which is the sum of the lengths, if every entry keeps the rules. A loop with `?`: as a fold over
-    // the end of the page before it is no shorter.
+    // Where the last page ends, which is the sum of the lengths, if every entry keeps the rules. A
+    // loop with `?`: as a fold over the end of the page before it is no shorter.
     pub(crate) fn checked_total(&self) -> Result<usize, RollFault>
         ensures { Checked self.now.bytes.now result }
     {

@@ -1,4 +1,4 @@
--- The refusal that each cause of these sets stands for. Assumes nothing.
+-- The refusal that each cause of these sets stands for.
 use Rattle.charset.specs.declared.SetRefusal.{SetRefusal}
 use Rattle.sets.specs.declared.cause.Cause.{Cause}
 use Rattle.sets.specs.declared.cause.Cause.TheVariants.{NotInUse, NoPair, Malformed}

@@ -1,5 +1,6 @@
--- ISO/IEC 6937:1994 in its 8-bit form, by Table 4. Assumes nothing.
-use Rattle.std.specs.Prelude.{ℕ, Bool, true, false, cond, List, [], ◌∷◌, is_some, Some, None, Option, ◌==◌}
+-- ISO/IEC 6937:1994 in its 8-bit form, by Table 4.
+use Rattle.std.specs.Prelude.{ℕ, Bool, true, false, cond, List, [], ◌∷◌, is_some, Some, None}
+use Rattle.std.specs.Prelude.{Option, ◌==◌}
 use Rattle.std.specs.Option.{option_map}
 use Rattle.charset.specs.declared.SetRefusal.{SetRefusal}
 use Rattle.charset.specs.Meaning.{Codings, Meaning, meaning}
@@ -48,7 +49,9 @@ iso6937_character (mark ∷ letter ∷ []) = pair mark letter
 iso6937_character (a ∷ b ∷ c ∷ s) = None
 
 abbrev pub iso6937_string : ℕ → Option (List ℕ)
-iso6937_string c = or_else (option_map (λ b. b ∷ []) (byte_of supplementary c)) (option_map (λ p. p.0 ∷ p.1 ∷ []) (pair_of c))
+iso6937_string c =
+    or_else (option_map (λ b. b ∷ []) (byte_of supplementary c))
+    (option_map (λ p. p.0 ∷ p.1 ∷ []) (pair_of c))
 
 -- the empty string and the thirteen diacritics
 abbrev pub iso6937_openings : List ℕ → Bool

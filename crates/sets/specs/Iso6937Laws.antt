@@ -1,5 +1,6 @@
--- ISO/IEC 6937 keeps the laws of a character set. Assumes nothing.
-use Rattle.std.specs.Prelude.{◌≡◌, ℕ, zero, suc, ◌<◌, ◌≤◌, true, List, [], ◌∷◌, length, take, is_some, Some, None, Option, ◌≢◌, refl}
+-- ISO/IEC 6937 keeps the laws of a character set.
+use Rattle.std.specs.Prelude.{◌≡◌, ℕ, zero, suc, ◌<◌, ◌≤◌, true, List, [], ◌∷◌, length, take}
+use Rattle.std.specs.Prelude.{is_some, Some, None, Option, ◌≢◌, refl}
 use Rattle.std.proofs.Common.{sym, ◌∙◌, arith}
 use Rattle.std.specs.Option.{option_map}
 use Rattle.std.specs.List.{AllByRecursion}
@@ -12,18 +13,22 @@ use Rattle.sets.specs.Causes.{refusal}
 use Rattle.sets.specs.Search.{or_else}
 use Rattle.sets.specs.Columns.{byte_of}
 use Rattle.sets.specs.Iso6937Table.{supplementary}
-use Rattle.sets.specs.Iso6937.{single, letters_of, among, pair, pair_of, iso6937_character, iso6937_string, iso6937_openings, iso6937_causes, iso6937}
+use Rattle.sets.specs.Iso6937.{single, letters_of, among, pair, pair_of, iso6937_character}
+use Rattle.sets.specs.Iso6937.{iso6937_string, iso6937_openings, iso6937_causes, iso6937}
 use Rattle.sets.specs.CodeTable.{standing}
 use Rattle.sets.specs.TableFour.{single_at, accented_at, accented_of, mark_alone}
 
 written : (c : ℕ) (s : List ℕ) → iso6937_string c ≡ Some s → iso6937_character s ≡ Some c
 written c s e = alone_or_pair (byte_of supplementary c) refl e
   where
-    in_pairs : (o : Option (ℕ × ℕ)) → pair_of c ≡ o → option_map (λ p. p.0 ∷ p.1 ∷ []) o ≡ Some s → iso6937_character s ≡ Some c
+    in_pairs : (o : Option (ℕ × ℕ)) → pair_of c ≡ o → option_map (λ p. p.0 ∷ p.1 ∷ []) o ≡ Some s
+        → iso6937_character s ≡ Some c
     in_pairs None h f = cc
     in_pairs (Some p) h f = rw (← same_Some _ _ f) (accented_of p.0 p.1 c h).stands
 
-    alone_or_pair : (o : Option ℕ) → byte_of supplementary c ≡ o → or_else (option_map (λ b. b ∷ []) o) (option_map (λ p. p.0 ∷ p.1 ∷ []) (pair_of c)) ≡ Some s → iso6937_character s ≡ Some c
+    alone_or_pair : (o : Option ℕ) → byte_of supplementary c ≡ o
+        → or_else (option_map (λ b. b ∷ []) o) (option_map (λ p. p.0 ∷ p.1 ∷ []) (pair_of c)) ≡ Some
+        s → iso6937_character s ≡ Some c
     alone_or_pair None h f = in_pairs (pair_of c) refl f
     alone_or_pair (Some b) h f = rw (← same_Some _ _ f) (standing supplementary b c h)
 
@@ -61,7 +66,8 @@ opening_sized (a ∷ b ∷ s) e = cc
 pub diacritic : (b : ℕ) → is_some (letters_of b) ≡ true → (b < 256) × (single b ≡ None)
 diacritic b e = go (letters_of b) refl e
   where
-    go : (o : Option (List (ℕ × ℕ))) → letters_of b ≡ o → is_some o ≡ true → (b < 256) × (single b ≡ None)
+    go : (o : Option (List (ℕ × ℕ))) → letters_of b ≡ o → is_some o ≡ true
+        → (b < 256) × (single b ≡ None)
     go None h f = cc
     go (Some ps) h f = mark_alone b ps h
 
@@ -77,7 +83,8 @@ marks m l c e = go (letters_of m) e
     go None f = cc
     go (Some ps) f = refl
 
-coding_begins : (s : List ℕ) (c n : ℕ) → iso6937_character s ≡ Some c → n < length s → iso6937_openings (take n s) ≡ true
+coding_begins : (s : List ℕ) (c n : ℕ) → iso6937_character s ≡ Some c → n < length s
+    → iso6937_openings (take n s) ≡ true
 coding_begins [] c n e h = cc
 coding_begins (b ∷ []) c zero e h = refl
 coding_begins (b ∷ []) c (suc n) e h = absurd (omega arith)
@@ -86,7 +93,8 @@ coding_begins (m ∷ l ∷ []) c (suc zero) e h = marks m l c e
 coding_begins (m ∷ l ∷ []) c (suc (suc n)) e h = absurd (omega arith)
 coding_begins (a ∷ b ∷ d ∷ s) c n e h = cc
 
-opening_begins : (s : List ℕ) (n : ℕ) → iso6937_openings s ≡ true → iso6937_openings (take n s) ≡ true
+opening_begins : (s : List ℕ) (n : ℕ) → iso6937_openings s ≡ true
+    → iso6937_openings (take n s) ≡ true
 opening_begins [] zero e = refl
 opening_begins [] (suc n) e = refl
 opening_begins (b ∷ []) zero e = refl
@@ -101,9 +109,13 @@ no_coding (a ∷ b ∷ s) c o e = cc
 
 cause_sized : (s : List ℕ) → ((iso6937_causes s).cause < 256) × ((iso6937_causes s).depth < 256)
 cause_sized [] = (omega arith, omega arith)
-cause_sized (b ∷ s) = cond_both (is_some (letters_of b)) (refusal NoPair) (refusal NotInUse) (λ q. (q.cause < 256) × (q.depth < 256)) (λ e. (omega arith, omega arith)) (λ e. (omega arith, omega arith))
+cause_sized (b ∷ s) =
+    cond_both (is_some (letters_of b)) (refusal NoPair) (refusal NotInUse)
+    (λ q. (q.cause < 256) × (q.depth < 256)) (λ e. (omega arith, omega arith))
+    (λ e. (omega arith, omega arith))
 
-cause_stays : (s : List ℕ) (n : ℕ) → Unreadable iso6937 (take n s) → iso6937_causes s ≡ iso6937_causes (take n s)
+cause_stays : (s : List ℕ) (n : ℕ) → Unreadable iso6937 (take n s)
+    → iso6937_causes s ≡ iso6937_causes (take n s)
 cause_stays [] zero h = refl
 cause_stays [] (suc n) h = refl
 cause_stays (b ∷ s) zero h = absurd (false≢true (sym h.1))

@@ -1,4 +1,4 @@
--- A set of single bytes, by the six columns of its upper half. Assumes nothing.
+-- A set of single bytes, by the six columns of its upper half.
 use Rattle.std.specs.Prelude.{ℕ, Bool, true, false, List, [], ◌∷◌, None, Option}
 use Rattle.std.specs.Option.{option_map}
 use Rattle.charset.specs.declared.SetRefusal.{SetRefusal}
@@ -13,7 +13,12 @@ single_byte_character columns (b ∷ []) = character_at columns b
 single_byte_character columns (a ∷ b ∷ s) = None
 
 abbrev pub single_byte_codings : List (List ℕ) → Codings
-single_byte_codings columns = record { character = single_byte_character columns; string = λ c. option_map (λ b. b ∷ []) (byte_of columns c) }
+single_byte_codings columns =
+    record {
+      character = single_byte_character columns;
+      string =
+          λ c. option_map (λ b. b ∷ []) (byte_of columns c);
+    }
 
 -- the empty string alone
 abbrev pub single_byte_openings : List ℕ → Bool

@@ -1,5 +1,7 @@
--- A set of single bytes keeps the laws of a character set, and what it cannot read. Assumes nothing.
-use Rattle.std.specs.Prelude.{◌≡◌, ℕ, zero, suc, ◌<◌, ◌≤◌, true, List, [], ◌∷◌, length, take, Some, None, Option, slice_index, refl}
+-- A set of single bytes keeps the laws of a character set, and what it cannot read. Assumes
+-- nothing.
+use Rattle.std.specs.Prelude.{◌≡◌, ℕ, zero, suc, ◌<◌, ◌≤◌, true, List, [], ◌∷◌, length, take, Some}
+use Rattle.std.specs.Prelude.{None, Option, slice_index, refl}
 use Rattle.std.proofs.Common.{sym, ap, ◌∙◌, arith}
 use Rattle.std.specs.Option.{option_map}
 use Rattle.std.specs.List.{AllByRecursion}
@@ -11,24 +13,29 @@ use Rattle.sets.specs.SingleByte.{single_byte_character, single_byte_openings, s
 use Rattle.sets.specs.CodeTable.{placed, standing}
 
 module _ (columns : List (List ℕ)) (ok : one_to_one columns ≡ true) where
-  written : (c : ℕ) (s : List ℕ) → option_map (λ b. b ∷ []) (byte_of columns c) ≡ Some s → single_byte_character columns s ≡ Some c
+  written : (c : ℕ) (s : List ℕ) → option_map (λ b. b ∷ []) (byte_of columns c) ≡ Some s
+      → single_byte_character columns s ≡ Some c
   written c s e = go (byte_of columns c) refl e
     where
-      go : (o : Option ℕ) → byte_of columns c ≡ o → option_map (λ b. b ∷ []) o ≡ Some s → single_byte_character columns s ≡ Some c
+      go : (o : Option ℕ) → byte_of columns c ≡ o → option_map (λ b. b ∷ []) o ≡ Some s
+          → single_byte_character columns s ≡ Some c
       go None h f = cc
       go (Some b) h f = rw (← same_Some _ _ f) (standing columns b c h)
 
-  read : (s : List ℕ) (c : ℕ) → single_byte_character columns s ≡ Some c → option_map (λ b. b ∷ []) (byte_of columns c) ≡ Some s
+  read : (s : List ℕ) (c : ℕ) → single_byte_character columns s ≡ Some c
+      → option_map (λ b. b ∷ []) (byte_of columns c) ≡ Some s
   read [] c e = cc
   read (b ∷ []) c e = rw (placed columns ok b c e).back refl
   read (a ∷ b ∷ s) c e = cc
 
-  sized : (s : List ℕ) (c : ℕ) → single_byte_character columns s ≡ Some c → (0 < length s) × (length s ≤ 4)
+  sized : (s : List ℕ) (c : ℕ) → single_byte_character columns s ≡ Some c
+      → (0 < length s) × (length s ≤ 4)
   sized [] c e = cc
   sized (b ∷ []) c e = (omega arith, omega arith)
   sized (a ∷ b ∷ s) c e = cc
 
-  bytes : (s : List ℕ) (c : ℕ) → single_byte_character columns s ≡ Some c → AllByRecursion (λ b. b < 256) s
+  bytes : (s : List ℕ) (c : ℕ) → single_byte_character columns s ≡ Some c
+      → AllByRecursion (λ b. b < 256) s
   bytes [] c e = cc
   bytes (b ∷ []) c e = ((placed columns ok b c e).byte, tt)
   bytes (a ∷ b ∷ s) c e = cc
@@ -42,19 +49,23 @@ module _ (columns : List (List ℕ)) (ok : one_to_one columns ≡ true) where
   only_empty [] o = refl
   only_empty (b ∷ s) o = cc
 
-  coding_begins : (s : List ℕ) (c n : ℕ) → single_byte_character columns s ≡ Some c → n < length s → single_byte_openings (take n s) ≡ true
+  coding_begins : (s : List ℕ) (c n : ℕ) → single_byte_character columns s ≡ Some c → n < length s
+      → single_byte_openings (take n s) ≡ true
   coding_begins s c zero e h = refl
   coding_begins [] c (suc n) e h = cc
   coding_begins (b ∷ []) c (suc n) e h = absurd (omega arith)
   coding_begins (a ∷ b ∷ s) c (suc n) e h = cc
 
-  opening_begins : (s : List ℕ) (n : ℕ) → single_byte_openings s ≡ true → single_byte_openings (take n s) ≡ true
+  opening_begins : (s : List ℕ) (n : ℕ) → single_byte_openings s ≡ true
+      → single_byte_openings (take n s) ≡ true
   opening_begins s zero o = refl
   opening_begins [] (suc n) o = refl
   opening_begins (b ∷ s) (suc n) o = cc
 
   opening_bare : (s : List ℕ) → single_byte_openings s ≡ true → NoFront (single_byte columns) s
-  opening_bare s o n c e = none-some _ (ap (single_byte_character columns) (sym (only_empty (take n s) (opening_begins s n o))) ∙ e)
+  opening_bare s o n c e =
+      none-some _ (ap (single_byte_character columns)
+      (sym (only_empty (take n s) (opening_begins s n o))) ∙ e)
 
   pub single_byte_laws : Laws (single_byte columns)
   single_byte_laws = record {
@@ -74,6 +85,7 @@ module _ (columns : List (List ℕ)) (ok : one_to_one columns ≡ true) where
     cause_stays = λ s n h. refl;
   }
 
-  pub not_in_use : (s : List ℕ) → 0 < length s → character_at columns (slice_index s 0) ≡ None → Unreadable (single_byte columns) s
+  pub not_in_use : (s : List ℕ) → 0 < length s → character_at columns (slice_index s 0) ≡ None
+      → Unreadable (single_byte columns) s
   not_in_use [] h e = absurd (omega arith)
   not_in_use (b ∷ s) h e = unreadable_here single_byte_laws (b ∷ s) 0 refl e refl

@@ -1,5 +1,6 @@
--- Table 4 is one to one, by tests over the whole of it that antt computes. Assumes nothing.
-use Rattle.std.specs.Prelude.{◌≡◌, ℕ, ◌<◌, Bool, true, ◌&&◌, List, [], ◌∷◌, Some, None, Option, ◌==◌, nat_lt, refl}
+-- Table 4 is one to one, by tests over the whole of it that antt computes.
+use Rattle.std.specs.Prelude.{◌≡◌, ℕ, ◌<◌, Bool, true, ◌&&◌, List, [], ◌∷◌, Some, None, Option}
+use Rattle.std.specs.Prelude.{◌==◌, nat_lt, refl}
 use Rattle.std.proofs.Common.{ap, ◌∙◌}
 use Rattle.std.proofs.Math.Path.{subst₃}
 use Rattle.std.specs.Option.{option_map, is_none}
@@ -9,7 +10,8 @@ use Rattle.charset.proofs.FrontLemmas.{no_value}
 use Rattle.sets.specs.Search.{when, first_from}
 use Rattle.sets.specs.Columns.{is_character, one_to_one}
 use Rattle.sets.specs.Iso6937Table.{supplementary, diacritics}
-use Rattle.sets.specs.Iso6937.{single, letters_of, by_letter, by_character, letter_of, among, pair, pair_of, iso6937_string}
+use Rattle.sets.specs.Iso6937.{single, letters_of, by_letter, by_character, letter_of, among, pair}
+use Rattle.sets.specs.Iso6937.{pair_of, iso6937_string}
 use Rattle.sets.specs.CodeTable.{is_this, placed, all_low, low_at}
 use Rattle.sets.specs.Tables.{when_some, every, found_passes, is_string, is_string_true}
 
@@ -22,9 +24,12 @@ supplementary_low : all_low supplementary ≡ true
 unfolding supplementary
 supplementary_low = refl
 
--- the pairs: a pair's character is coded by the pair, the pair codes it, and a diacritic codes nothing alone
+-- the pairs: a pair's character is coded by the pair, the pair codes it, and a diacritic codes
+-- nothing alone
 abbrev letter_test : ℕ → ℕ × ℕ → Bool
-letter_test mark p = (is_string (mark ∷ p.0 ∷ []) (iso6937_string p.1) && is_character p.1 (pair mark p.0)) && (nat_lt p.0 256 && nat_lt p.1 0xd800)
+letter_test mark p =
+    (is_string (mark ∷ p.0 ∷ []) (iso6937_string p.1) && is_character p.1 (pair mark p.0)) &&
+    (nat_lt p.0 256 && nat_lt p.1 0xd800)
 
 diacritic_test : ℕ × List (ℕ × ℕ) → Bool
 diacritic_test d = (nat_lt d.0 256 && is_none (single d.0)) && every (letter_test d.0) d.1
@@ -42,7 +47,12 @@ pub record Single (b c : ℕ) : Type 0 where
 pub single_at : (b c : ℕ) → single b ≡ Some c → Single b c
 single_at b c e =
     let p = placed supplementary one_place b c e in
-    record { byte = p.byte; coded = rw p.back refl; low = low_at supplementary supplementary_low b c e }
+    record {
+      byte = p.byte;
+      coded = rw p.back refl;
+      low =
+          low_at supplementary supplementary_low b c e;
+    }
 
 -- a diacritic and a letter, and the character that they code
 pub record Accented (mark letter c : ℕ) : Type 0 where
@@ -65,10 +75,13 @@ tested d t =
     let b = and_parts (nat_lt d.0 256) (is_none (single d.0)) a.0 in
     record { mark_byte = ltb-true d.0 256 b.0; alone = no_value (single d.0) b.1; letters = a.1 }
 
-accented_entry : (d : ℕ × List (ℕ × ℕ)) (p : ℕ × ℕ) → Tested d → letter_test d.0 p ≡ true → Accented d.0 p.0 p.1
+accented_entry : (d : ℕ × List (ℕ × ℕ)) (p : ℕ × ℕ) → Tested d → letter_test d.0 p ≡ true
+    → Accented d.0 p.0 p.1
 accented_entry d p t u =
-    let e = and_parts (is_string (d.0 ∷ p.0 ∷ []) (iso6937_string p.1) && is_character p.1 (pair d.0 p.0)) (nat_lt p.0 256 && nat_lt p.1 0xd800) u in
-    let f = and_parts (is_string (d.0 ∷ p.0 ∷ []) (iso6937_string p.1)) (is_character p.1 (pair d.0 p.0)) e.0 in
+    let e = and_parts (is_string (d.0 ∷ p.0 ∷ []) (iso6937_string p.1) && is_character p.1
+    (pair d.0 p.0)) (nat_lt p.0 256 && nat_lt p.1 0xd800) u in
+    let f = and_parts (is_string (d.0 ∷ p.0 ∷ []) (iso6937_string p.1))
+    (is_character p.1 (pair d.0 p.0)) e.0 in
     let g = and_parts (nat_lt p.0 256) (nat_lt p.1 0xd800) e.1 in
     record {
       mark_byte = t.mark_byte;
@@ -79,19 +92,23 @@ accented_entry d p t u =
     }
 
 -- the diacritic whose letters these are
-marked : (mark : ℕ) (ps : List (ℕ × ℕ)) → letters_of mark ≡ Some ps → (d : ℕ × List (ℕ × ℕ)) × Tested d × (d.0 ≡ mark) × (d.1 ≡ ps)
+marked : (mark : ℕ) (ps : List (ℕ × ℕ)) → letters_of mark ≡ Some ps
+    → (d : ℕ × List (ℕ × ℕ)) × Tested d × (d.0 ≡ mark) × (d.1 ≡ ps)
 marked mark ps e =
-    let h = found_passes diacritic_test (λ d. when (d.0 == mark) d.1) diacritics ps diacritics_tested e in
+    let h = found_passes diacritic_test (λ d. when (d.0 == mark) d.1) diacritics ps
+    diacritics_tested e in
     let same = when_some h.0.0 mark h.0.1 ps h.2 in
     (h.0, tested h.0 h.1, same.0, same.1)
 
-pub mark_alone : (mark : ℕ) (ps : List (ℕ × ℕ)) → letters_of mark ≡ Some ps → (mark < 256) × (single mark ≡ None)
+pub mark_alone : (mark : ℕ) (ps : List (ℕ × ℕ)) → letters_of mark ≡ Some ps
+    → (mark < 256) × (single mark ≡ None)
 mark_alone mark ps e = let h = marked mark ps e in (rw (← h.2) h.1.mark_byte, rw (← h.2) h.1.alone)
 
 pub accented_at : (mark letter c : ℕ) → pair mark letter ≡ Some c → Accented mark letter c
 accented_at mark letter c e = go (letters_of mark) refl e
   where
-    go : (o : Option (List (ℕ × ℕ))) → letters_of mark ≡ o → among letter o ≡ Some c → Accented mark letter c
+    go : (o : Option (List (ℕ × ℕ))) → letters_of mark ≡ o → among letter o ≡ Some c
+        → Accented mark letter c
     go None f g = cc
     go (Some ps) f g =
         let h = marked mark ps f in
@@ -103,10 +120,13 @@ accented_at mark letter c e = go (letters_of mark) refl e
 
 pub accented_of : (mark letter c : ℕ) → pair_of c ≡ Some (mark, letter) → Accented mark letter c
 accented_of mark letter c e =
-    let h = found_passes diacritic_test (λ d. option_map {U = ℕ × ℕ} (λ x. (d.0, x)) (letter_of c d.1)) diacritics (mark, letter) diacritics_tested e in
+    let h = found_passes diacritic_test
+    (λ d. option_map {U = ℕ × ℕ} (λ x. (d.0, x)) (letter_of c d.1)) diacritics (mark, letter)
+    diacritics_tested e in
     go h.0 (tested h.0 h.1) (letter_of c h.0.1) refl h.2
   where
-    go : (d : ℕ × List (ℕ × ℕ)) → Tested d → (o : Option ℕ) → letter_of c d.1 ≡ o → option_map {U = ℕ × ℕ} (λ x. (d.0, x)) o ≡ Some (mark, letter) → Accented mark letter c
+    go : (d : ℕ × List (ℕ × ℕ)) → Tested d → (o : Option ℕ) → letter_of c d.1 ≡ o
+        → option_map {U = ℕ × ℕ} (λ x. (d.0, x)) o ≡ Some (mark, letter) → Accented mark letter c
     go d t None f g = cc
     go d t (Some x) f g =
         let k = found_passes (letter_test d.0) (by_character c) d.1 x t.letters f in

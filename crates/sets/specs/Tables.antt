@@ -1,5 +1,6 @@
--- A rule that a computed test shows of every entry of a table. Assumes nothing.
-use Rattle.std.specs.Prelude.{◌≡◌, ℕ, zero, suc, ◌+◌, ◌<◌, ◌≤◌, Bool, true, false, ◌&&◌, List, [], ◌∷◌, Some, None, Option, ◌==◌, bytes_eq, refl}
+-- A rule that a computed test shows of every entry of a table.
+use Rattle.std.specs.Prelude.{◌≡◌, ℕ, zero, suc, ◌+◌, ◌<◌, ◌≤◌, Bool, true, false, ◌&&◌, List, []}
+use Rattle.std.specs.Prelude.{◌∷◌, Some, None, Option, ◌==◌, bytes_eq, refl}
 use Rattle.std.proofs.Common.{ap, ◌∙◌, inl, inr, arith}
 use Rattle.std.proofs.lemmas.Bool.{and_parts, cases_eq, eqb-true}
 use Rattle.std.proofs.lemmas.Option.{cond_some}
@@ -16,13 +17,16 @@ every p [] = true
 every p (x ∷ xs) = p x && every p xs
 
 -- what a search finds comes from an element that passes
-pub found_passes : {A B : Type 0} (p : A → Bool) (f : A → Option B) (xs : List A) (y : B) → every p xs ≡ true → first_in f xs ≡ Some y → (x : A) × (p x ≡ true) × (f x ≡ Some y)
+pub found_passes : {A B : Type 0} (p : A → Bool) (f : A → Option B) (xs : List A) (y : B)
+    → every p xs ≡ true → first_in f xs ≡ Some y → (x : A) × (p x ≡ true) × (f x ≡ Some y)
 found_passes p f [] y all e = cc
 found_passes {A} {B} p f (x ∷ xs) y all e =
     let both = and_parts (p x) (every p xs) all in
     go (f x) refl e both.0 (found_passes p f xs y both.1)
   where
-    go : (o : Option B) → f x ≡ o → or_else o (first_in f xs) ≡ Some y → p x ≡ true → (first_in f xs ≡ Some y → (z : A) × (p z ≡ true) × (f z ≡ Some y)) → (z : A) × (p z ≡ true) × (f z ≡ Some y)
+    go : (o : Option B) → f x ≡ o → or_else o (first_in f xs) ≡ Some y → p x ≡ true
+        → (first_in f xs ≡ Some y → (z : A) × (p z ≡ true) × (f z ≡ Some y))
+        → (z : A) × (p z ≡ true) × (f z ≡ Some y)
     go None h g ok more = more g
     go (Some z) h g ok more = (x, ok, h ∙ g)
 

@@ -1,5 +1,6 @@
--- UTF-8, by RFC 3629. Assumes nothing.
-use Rattle.std.specs.Prelude.{ℕ, ◌+◌, ◌-◌, ◌*◌, ◌/◌, ◌%◌, ◌<◌, Bool, true, false, cond, ◌&&◌, List, [], ◌∷◌, ◌++◌, length, Some, None, Option, ◌==◌, nat_le, nat_lt}
+-- UTF-8, by RFC 3629.
+use Rattle.std.specs.Prelude.{ℕ, ◌+◌, ◌-◌, ◌*◌, ◌/◌, ◌%◌, ◌<◌, Bool, true, false, cond, ◌&&◌, List}
+use Rattle.std.specs.Prelude.{[], ◌∷◌, ◌++◌, length, Some, None, Option, ◌==◌, nat_le, nat_lt}
 use Rattle.charset.specs.declared.SetRefusal.{SetRefusal}
 use Rattle.charset.specs.Meaning.{Codings, Meaning, meaning, Codes, Opens}
 use Rattle.sets.specs.declared.cause.Cause.TheVariants.{Malformed}
@@ -39,8 +40,11 @@ abbrev pub utf8_character : List ℕ → Option ℕ
 utf8_character [] = None
 utf8_character (a ∷ []) = when (nat_lt a 0x80) a
 utf8_character (a ∷ b ∷ []) = when (two_octets a b) ((a - 0xc0) * 64 + (b - 0x80))
-utf8_character (a ∷ b ∷ c ∷ []) = when (three_octets a b c) ((a - 0xe0) * 4096 + (b - 0x80) * 64 + (c - 0x80))
-utf8_character (a ∷ b ∷ c ∷ d ∷ []) = when (four_octets a b c d) ((a - 0xf0) * 262144 + (b - 0x80) * 4096 + (c - 0x80) * 64 + (d - 0x80))
+utf8_character (a ∷ b ∷ c ∷ []) =
+    when (three_octets a b c) ((a - 0xe0) * 4096 + (b - 0x80) * 64 + (c - 0x80))
+utf8_character (a ∷ b ∷ c ∷ d ∷ []) =
+    when (four_octets a b c d) ((a - 0xf0) * 262144 + (b - 0x80) * 4096 + (c - 0x80) * 64 +
+    (d - 0x80))
 utf8_character (a ∷ b ∷ c ∷ d ∷ e ∷ s) = None
 
 abbrev pub surrogate : ℕ → Bool
@@ -56,7 +60,9 @@ utf8_string c =
     (cond (nat_lt c 0x800) (Some ((0xc0 + c / 64) ∷ low_bits c ∷ []))
     (cond (surrogate c) None
     (cond (nat_lt c 0x10000) (Some ((0xe0 + c / 4096) ∷ low_bits (c / 64) ∷ low_bits c ∷ []))
-    (cond (nat_lt c 0x110000) (Some ((0xf0 + c / 262144) ∷ low_bits (c / 4096) ∷ low_bits (c / 64) ∷ low_bits c ∷ [])) None))))
+    (cond (nat_lt c 0x110000)
+    (Some ((0xf0 + c / 262144) ∷ low_bits (c / 4096) ∷ low_bits (c / 64) ∷ low_bits c ∷ []))
+    None))))
 
 -- the proper beginnings of codings, as `OpeningsBeginCodings` and the laws say
 abbrev pub utf8_openings : List ℕ → Bool
@@ -77,4 +83,5 @@ utf8 = meaning utf8_codings utf8_openings utf8_causes
 
 -- every opening is a proper beginning of a coding
 abbrev pub OpeningsBeginCodings : Type 0
-OpeningsBeginCodings = (s : List ℕ) → Opens utf8 s → (t : List ℕ) × (c : ℕ) × (0 < length t) × Codes utf8 (s ++ t) c
+OpeningsBeginCodings =
+    (s : List ℕ) → Opens utf8 s → (t : List ℕ) × (c : ℕ) × (0 < length t) × Codes utf8 (s ++ t) c

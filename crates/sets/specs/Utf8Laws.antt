@@ -1,5 +1,6 @@
--- UTF-8 keeps the laws of a character set. Assumes nothing.
-use Rattle.std.specs.Prelude.{◌≡◌, ℕ, zero, suc, ◌+◌, ◌-◌, ◌*◌, ◌/◌, ◌<◌, ◌≤◌, true, false, List, [], ◌∷◌, length, take, Some, None, ◌≢◌, nat_lt, refl}
+-- UTF-8 keeps the laws of a character set.
+use Rattle.std.specs.Prelude.{◌≡◌, ℕ, zero, suc, ◌+◌, ◌-◌, ◌*◌, ◌/◌, ◌<◌, ◌≤◌, true, false, List}
+use Rattle.std.specs.Prelude.{[], ◌∷◌, length, take, Some, None, ◌≢◌, nat_lt, refl}
 use Rattle.std.proofs.Common.{sym, ◌∙◌, inl, inr, arith}
 use Rattle.std.specs.List.{AllByRecursion}
 use Rattle.std.proofs.lemmas.Bool.{cond-true, lt-ltb, le-ltb, cases_lt, cases_Bool}
@@ -7,51 +8,78 @@ use Rattle.std.proofs.lemmas.Bool.Decides.{nat_tests}
 use Rattle.std.proofs.lemmas.Option.{none-some, same_Some, cond_some}
 use Rattle.charset.specs.Meaning.{Laws}
 use Rattle.charset.proofs.FrontLemmas.{alone, no_front_by}
-use Rattle.sets.specs.Utf8.{least_second, two_octets, three_octets, four_octets, surrogate, low_bits, utf8_character, utf8_string, utf8_openings, utf8, OpeningsBeginCodings}
+use Rattle.sets.specs.Utf8.{least_second, two_octets, three_octets, four_octets, surrogate}
+use Rattle.sets.specs.Utf8.{low_bits, utf8_character, utf8_string, utf8_openings, utf8}
+use Rattle.sets.specs.Utf8.{OpeningsBeginCodings}
 
 -- each row of the table of section 3, from the number to the octets and back
-written_two : (c : ℕ) → 0x80 ≤ c → c < 0x800 → utf8_character ((0xc0 + c / 64) ∷ low_bits c ∷ []) ≡ Some c
+written_two : (c : ℕ) → 0x80 ≤ c → c < 0x800
+    → utf8_character ((0xc0 + c / 64) ∷ low_bits c ∷ []) ≡ Some c
 written_two c h k =
     let a : two_octets (0xc0 + c / 64) (low_bits c) ≡ true = grind (arith, nat_tests) in
     let v : (0xc0 + c / 64 - 0xc0) * 64 + (low_bits c - 0x80) ≡ c = omega arith in
     rw (a, v) refl
 
-written_three : (c : ℕ) → 0x800 ≤ c → c < 0x10000 → surrogate c ≡ false → utf8_character ((0xe0 + c / 4096) ∷ low_bits (c / 64) ∷ low_bits c ∷ []) ≡ Some c
+written_three : (c : ℕ) → 0x800 ≤ c → c < 0x10000 → surrogate c ≡ false
+    → utf8_character ((0xe0 + c / 4096) ∷ low_bits (c / 64) ∷ low_bits c ∷ []) ≡ Some c
 written_three c h k s =
-    let a : three_octets (0xe0 + c / 4096) (low_bits (c / 64)) (low_bits c) ≡ true = grind (arith, nat_tests) in
-    let v : (0xe0 + c / 4096 - 0xe0) * 4096 + (low_bits (c / 64) - 0x80) * 64 + (low_bits c - 0x80) ≡ c = omega arith in
+    let a : three_octets (0xe0 + c / 4096) (low_bits (c / 64)) (low_bits c) ≡ true =
+    grind (arith, nat_tests) in
+    let v : (0xe0 + c / 4096 - 0xe0) * 4096 + (low_bits (c / 64) - 0x80) * 64 +
+    (low_bits c - 0x80) ≡ c = omega arith in
     rw (a, v) refl
 
-written_four : (c : ℕ) → 0x10000 ≤ c → c < 0x110000 → utf8_character ((0xf0 + c / 262144) ∷ low_bits (c / 4096) ∷ low_bits (c / 64) ∷ low_bits c ∷ []) ≡ Some c
+written_four : (c : ℕ) → 0x10000 ≤ c → c < 0x110000
+    → utf8_character ((0xf0 + c / 262144) ∷ low_bits (c / 4096) ∷ low_bits (c / 64) ∷ low_bits c
+    ∷ []) ≡ Some c
 written_four c h k =
-    let a : four_octets (0xf0 + c / 262144) (low_bits (c / 4096)) (low_bits (c / 64)) (low_bits c) ≡ true = grind (arith, nat_tests) in
+    let a : four_octets (0xf0 + c / 262144) (low_bits (c / 4096)) (low_bits (c / 64)) (low_bits c) ≡
+    true = grind (arith, nat_tests) in
     let x : c / 64 / 64 ≡ c / 4096 = omega arith in
     let y : c / 4096 / 64 ≡ c / 262144 = omega arith in
-    let v : (0xf0 + c / 262144 - 0xf0) * 262144 + (low_bits (c / 4096) - 0x80) * 4096 + (low_bits (c / 64) - 0x80) * 64 + (low_bits c - 0x80) ≡ c = omega arith in
+    let v : (0xf0 + c / 262144 - 0xf0) * 262144 + (low_bits (c / 4096) - 0x80) * 4096 +
+    (low_bits (c / 64) - 0x80) * 64 + (low_bits c - 0x80) ≡ c = omega arith in
     rw (a, v) refl
 
 -- the row that a number falls in
 string_one : (c : ℕ) → c < 0x80 → utf8_string c ≡ Some (c ∷ [])
 string_one c h = rw (lt-ltb c 0x80 h) refl
 
-string_two : (c : ℕ) → 0x80 ≤ c → c < 0x800 → utf8_string c ≡ Some ((0xc0 + c / 64) ∷ low_bits c ∷ [])
+string_two : (c : ℕ) → 0x80 ≤ c → c < 0x800
+    → utf8_string c ≡ Some ((0xc0 + c / 64) ∷ low_bits c ∷ [])
 string_two c h k = rw (le-ltb c 0x80 h, lt-ltb c 0x800 k) refl
 
-string_three : (c : ℕ) → 0x800 ≤ c → surrogate c ≡ false → c < 0x10000 → utf8_string c ≡ Some ((0xe0 + c / 4096) ∷ low_bits (c / 64) ∷ low_bits c ∷ [])
-string_three c h k l = rw (le-ltb c 0x80 (omega arith), le-ltb c 0x800 h, k, lt-ltb c 0x10000 l) refl
+string_three : (c : ℕ) → 0x800 ≤ c → surrogate c ≡ false → c < 0x10000
+    → utf8_string c ≡ Some ((0xe0 + c / 4096) ∷ low_bits (c / 64) ∷ low_bits c ∷ [])
+string_three c h k l =
+    rw (le-ltb c 0x80 (omega arith), le-ltb c 0x800 h, k, lt-ltb c 0x10000 l) refl
 
 string_surrogate : (c : ℕ) → surrogate c ≡ true → utf8_string c ≡ None
 string_surrogate c h = grind (arith, nat_tests)
 
-string_four : (c : ℕ) → 0x10000 ≤ c → c < 0x110000 → utf8_string c ≡ Some ((0xf0 + c / 262144) ∷ low_bits (c / 4096) ∷ low_bits (c / 64) ∷ low_bits c ∷ [])
+string_four : (c : ℕ) → 0x10000 ≤ c → c < 0x110000
+    → utf8_string c ≡ Some ((0xf0 + c / 262144) ∷ low_bits (c / 4096) ∷ low_bits (c / 64)
+    ∷ low_bits c ∷ [])
 string_four c h k =
     let apart : surrogate c ≡ false = grind (arith, nat_tests) in
-    rw (le-ltb c 0x80 (omega arith), le-ltb c 0x800 (omega arith), apart, le-ltb c 0x10000 h, lt-ltb c 0x110000 k) refl
+    rw (
+      le-ltb c 0x80 (omega arith),
+      le-ltb c 0x800 (omega arith),
+      apart,
+      le-ltb c 0x10000 h,
+      lt-ltb c 0x110000 k,
+    ) refl
 
 string_past : (c : ℕ) → 0x110000 ≤ c → utf8_string c ≡ None
 string_past c h =
     let apart : surrogate c ≡ false = grind (arith, nat_tests) in
-    rw (le-ltb c 0x80 (omega arith), le-ltb c 0x800 (omega arith), apart, le-ltb c 0x10000 (omega arith), le-ltb c 0x110000 h) refl
+    rw (
+      le-ltb c 0x80 (omega arith),
+      le-ltb c 0x800 (omega arith),
+      apart,
+      le-ltb c 0x10000 (omega arith),
+      le-ltb c 0x110000 h,
+    ) refl
 
 -- every number below the surrogates has a coding
 pub low_written : (c : ℕ) → c < 0xd800 → (s : List ℕ) × (utf8_string c ≡ Some s)
@@ -81,19 +109,24 @@ written c s e = elim (cases_lt c 0x80) [
   ]
 ]
   where
-    by : {t : List ℕ} → utf8_string c ≡ Some t → utf8_character t ≡ Some c → utf8_character s ≡ Some c
+    by : {t : List ℕ} → utf8_string c ≡ Some t → utf8_character t ≡ Some c
+        → utf8_character s ≡ Some c
     by f g = rw (← same_Some _ _ (sym f ∙ e)) g
 
 read_one : (a : ℕ) → nat_lt a 0x80 ≡ true → utf8_string a ≡ Some (a ∷ [])
 read_one a t = rw t refl
 
-read_two : (a b : ℕ) → two_octets a b ≡ true → utf8_string ((a - 0xc0) * 64 + (b - 0x80)) ≡ Some (a ∷ b ∷ [])
+read_two : (a b : ℕ) → two_octets a b ≡ true
+    → utf8_string ((a - 0xc0) * 64 + (b - 0x80)) ≡ Some (a ∷ b ∷ [])
 read_two a b t = grind (arith, nat_tests)
 
-read_three : (a b c : ℕ) → three_octets a b c ≡ true → utf8_string ((a - 0xe0) * 4096 + (b - 0x80) * 64 + (c - 0x80)) ≡ Some (a ∷ b ∷ c ∷ [])
+read_three : (a b c : ℕ) → three_octets a b c ≡ true
+    → utf8_string ((a - 0xe0) * 4096 + (b - 0x80) * 64 + (c - 0x80)) ≡ Some (a ∷ b ∷ c ∷ [])
 read_three a b c t = grind (arith, nat_tests)
 
-read_four : (a b c d : ℕ) → four_octets a b c d ≡ true → utf8_string ((a - 0xf0) * 262144 + (b - 0x80) * 4096 + (c - 0x80) * 64 + (d - 0x80)) ≡ Some (a ∷ b ∷ c ∷ d ∷ [])
+read_four : (a b c d : ℕ) → four_octets a b c d ≡ true
+    → utf8_string ((a - 0xf0) * 262144 + (b - 0x80) * 4096 + (c - 0x80) * 64 + (d - 0x80)) ≡ Some
+    (a ∷ b ∷ c ∷ d ∷ [])
 read_four a b c d t = grind (arith, nat_tests)
 
 read : (s : List ℕ) (c : ℕ) → utf8_character s ≡ Some c → utf8_string c ≡ Some s
@@ -115,9 +148,18 @@ sized (a ∷ b ∷ c ∷ d ∷ x ∷ s) n e = cc
 bytes : (s : List ℕ) (c : ℕ) → utf8_character s ≡ Some c → AllByRecursion (λ b. b < 256) s
 bytes [] n e = cc
 bytes (a ∷ []) n e = let h = (cond_some _ _ n e).0 in (grind (arith, nat_tests), tt)
-bytes (a ∷ b ∷ []) n e = let h = (cond_some _ _ n e).0 in (grind (arith, nat_tests), (grind (arith, nat_tests), tt))
-bytes (a ∷ b ∷ c ∷ []) n e = let h = (cond_some _ _ n e).0 in (grind (arith, nat_tests), (grind (arith, nat_tests), (grind (arith, nat_tests), tt)))
-bytes (a ∷ b ∷ c ∷ d ∷ []) n e = let h = (cond_some _ _ n e).0 in (grind (arith, nat_tests), (grind (arith, nat_tests), (grind (arith, nat_tests), (grind (arith, nat_tests), tt))))
+bytes (a ∷ b ∷ []) n e =
+    let h = (cond_some _ _ n e).0 in (grind (arith, nat_tests), (grind (arith, nat_tests), tt))
+bytes (a ∷ b ∷ c ∷ []) n e =
+    let h = (cond_some _ _ n e).0 in (
+      grind (arith, nat_tests),
+      (grind (arith, nat_tests), (grind (arith, nat_tests), tt)),
+    )
+bytes (a ∷ b ∷ c ∷ d ∷ []) n e =
+    let h = (cond_some _ _ n e).0 in (
+      grind (arith, nat_tests),
+      (grind (arith, nat_tests), (grind (arith, nat_tests), (grind (arith, nat_tests), tt))),
+    )
 bytes (a ∷ b ∷ c ∷ d ∷ x ∷ s) n e = cc
 
 characters : (s : List ℕ) (c : ℕ) → utf8_character s ≡ Some c → c ≤ 0x10ffff
@@ -137,21 +179,29 @@ opening_bytes : (s : List ℕ) → utf8_openings s ≡ true → AllByRecursion (
 opening_bytes [] o = tt
 opening_bytes (a ∷ []) o = (grind (arith, nat_tests), tt)
 opening_bytes (a ∷ b ∷ []) o = (grind (arith, nat_tests), (grind (arith, nat_tests), tt))
-opening_bytes (a ∷ b ∷ c ∷ []) o = (grind (arith, nat_tests), (grind (arith, nat_tests), (grind (arith, nat_tests), tt)))
+opening_bytes (a ∷ b ∷ c ∷ []) o =
+    (grind (arith, nat_tests), (grind (arith, nat_tests), (grind (arith, nat_tests), tt)))
 opening_bytes (a ∷ b ∷ c ∷ d ∷ s) o = cc
 
-coding_begins : (s : List ℕ) (c n : ℕ) → utf8_character s ≡ Some c → n < length s → utf8_openings (take n s) ≡ true
+coding_begins : (s : List ℕ) (c n : ℕ) → utf8_character s ≡ Some c → n < length s
+    → utf8_openings (take n s) ≡ true
 coding_begins s v zero e k = refl
 coding_begins [] v (suc n) e k = cc
 coding_begins (a ∷ []) v (suc n) e k = absurd (omega arith)
-coding_begins (a ∷ b ∷ []) v (suc zero) e k = let h = (cond_some _ _ v e).0 in grind (arith, nat_tests)
+coding_begins (a ∷ b ∷ []) v (suc zero) e k =
+    let h = (cond_some _ _ v e).0 in grind (arith, nat_tests)
 coding_begins (a ∷ b ∷ []) v (suc (suc n)) e k = absurd (omega arith)
-coding_begins (a ∷ b ∷ c ∷ []) v (suc zero) e k = let h = (cond_some _ _ v e).0 in grind (arith, nat_tests)
-coding_begins (a ∷ b ∷ c ∷ []) v (suc (suc zero)) e k = let h = (cond_some _ _ v e).0 in grind (arith, nat_tests)
+coding_begins (a ∷ b ∷ c ∷ []) v (suc zero) e k =
+    let h = (cond_some _ _ v e).0 in grind (arith, nat_tests)
+coding_begins (a ∷ b ∷ c ∷ []) v (suc (suc zero)) e k =
+    let h = (cond_some _ _ v e).0 in grind (arith, nat_tests)
 coding_begins (a ∷ b ∷ c ∷ []) v (suc (suc (suc n))) e k = absurd (omega arith)
-coding_begins (a ∷ b ∷ c ∷ d ∷ []) v (suc zero) e k = let h = (cond_some _ _ v e).0 in grind (arith, nat_tests)
-coding_begins (a ∷ b ∷ c ∷ d ∷ []) v (suc (suc zero)) e k = let h = (cond_some _ _ v e).0 in grind (arith, nat_tests)
-coding_begins (a ∷ b ∷ c ∷ d ∷ []) v (suc (suc (suc zero))) e k = let h = (cond_some _ _ v e).0 in grind (arith, nat_tests)
+coding_begins (a ∷ b ∷ c ∷ d ∷ []) v (suc zero) e k =
+    let h = (cond_some _ _ v e).0 in grind (arith, nat_tests)
+coding_begins (a ∷ b ∷ c ∷ d ∷ []) v (suc (suc zero)) e k =
+    let h = (cond_some _ _ v e).0 in grind (arith, nat_tests)
+coding_begins (a ∷ b ∷ c ∷ d ∷ []) v (suc (suc (suc zero))) e k =
+    let h = (cond_some _ _ v e).0 in grind (arith, nat_tests)
 coding_begins (a ∷ b ∷ c ∷ d ∷ []) v (suc (suc (suc (suc n)))) e k = absurd (omega arith)
 coding_begins (a ∷ b ∷ c ∷ d ∷ x ∷ s) v (suc n) e k = cc
 
@@ -201,13 +251,24 @@ openings_begin_codings [] o = (0x20 ∷ [], 0x20, omega arith, refl)
 openings_begin_codings (a ∷ []) o = elim (cases_lt a 0xe0) [
   | inl h ↦ (0x80 ∷ [], _, omega arith, cond-true _ (Some _) None (grind (arith, nat_tests)))
   | inr h ↦ elim (cases_lt a 0xf0) [
-    | inl k ↦ (least_second a ∷ 0x80 ∷ [], _, omega arith, cond-true _ (Some _) None (grind (arith, nat_tests)))
-    | inr k ↦ (least_second a ∷ 0x80 ∷ 0x80 ∷ [], _, omega arith, cond-true _ (Some _) None (grind (arith, nat_tests)))
+    | inl k ↦ (
+      least_second a ∷ 0x80 ∷ [],
+      _,
+      omega arith,
+      cond-true _ (Some _) None (grind (arith, nat_tests)),
+    )
+    | inr k ↦ (
+      least_second a ∷ 0x80 ∷ 0x80 ∷ [],
+      _,
+      omega arith,
+      cond-true _ (Some _) None (grind (arith, nat_tests)),
+    )
   ]
 ]
 openings_begin_codings (a ∷ b ∷ []) o = elim (cases_lt a 0xf0) [
   | inl k ↦ (0x80 ∷ [], _, omega arith, cond-true _ (Some _) None (grind (arith, nat_tests)))
   | inr k ↦ (0x80 ∷ 0x80 ∷ [], _, omega arith, cond-true _ (Some _) None (grind (arith, nat_tests)))
 ]
-openings_begin_codings (a ∷ b ∷ c ∷ []) o = (0x80 ∷ [], _, omega arith, cond-true _ (Some _) None (grind (arith, nat_tests)))
+openings_begin_codings (a ∷ b ∷ c ∷ []) o =
+    (0x80 ∷ [], _, omega arith, cond-true _ (Some _) None (grind (arith, nat_tests)))
 openings_begin_codings (a ∷ b ∷ c ∷ d ∷ s) o = cc

@@ -1,6 +1,6 @@
-// A code table of single bytes: ASCII in the lower half, and in the upper the columns 10 to 15 with sixteen rows each, so
-// bytes A0 to FF, with the code point at each position, or 0 where no character stands: no
-// `Option`, so that the table can be laid beside the printed one.
+// A code table of single bytes: ASCII in the lower half, and in the upper the columns 10 to 15 with
+// sixteen rows each, so bytes A0 to FF, with the code point at each position, or 0 where no
+// character stands: no `Option`, so that the table can be laid beside the printed one.
 ghost use Rattle.std.specs.Prelude.{◌≡◌};
 ghost use Rattle.sets.specs.Columns.{upper_at, character_at, upper_of, byte_of};
 
@@ -21,7 +21,8 @@ impl CodeTable {
         (character != 0).then_some(character)
     }
 
-    // The first byte from A0 on that has the character. Over `0..96`, since `0xA0..=0xFF` takes one and a half times the instructions.
+    // The first byte from A0 on that has the character. Over `0..96`, since `0xA0..=0xFF` takes one
+    // and a half times the instructions.
     fn upper_of(&self, character: u32) -> Option<u8>
         ensures { result ≡ upper_of self.now.columns character }
     {

@@ -1,7 +1,8 @@
 // The single-byte sets: ASCII in the lower half, and a table of their own in the upper.
 ghost use Rattle.std.specs.Prelude.{◌≡◌, true};
 ghost use Rattle.sets.specs.Columns.{one_to_one};
-ghost use Rattle.sets.specs.SingleByte.{single_byte_codings, single_byte_openings, single_byte_causes};
+ghost use Rattle.sets.specs.SingleByte.{single_byte_codings, single_byte_openings};
+ghost use Rattle.sets.specs.SingleByte.{single_byte_causes};
 ghost use Rattle.sets.specs.SingleByteTables.{iso8859_16, sami};
 ghost use Rattle.sets.specs.SingleByteLaws.{single_byte_laws};
 
@@ -39,7 +40,8 @@ pub struct SingleByte {
     ghost unambiguous: { one_to_one table.columns ≡ true },
 }
 
-// One constructor for each table: one that took any table would have to refuse those in which a character stands twice.
+// One constructor for each table: one that took any table would have to refuse those in which a
+// character stands twice.
 impl SingleByte {
     pub fn iso8859_16() -> SingleByte
         ensures { result.table.columns ≡ iso8859_16 }

@@ -1,5 +1,6 @@
--- A run of characters as the work of an offer. Assumes nothing.
-use Rattle.std.proofs.Common.{◌≡◌, ℕ, ◌*◌, ◌≤◌, List, [], ◌∷◌, ◌++◌, length, drop, None, Ok, sym, refl, ap, ◌∙◌, subst, arith, length-append}
+-- A run of characters as the work of an offer.
+use Rattle.std.proofs.Common.{◌≡◌, ℕ, ◌*◌, ◌≤◌, List, [], ◌∷◌, ◌++◌, length, drop, None, Ok, sym}
+use Rattle.std.proofs.Common.{refl, ap, ◌∙◌, subst, arith, length-append}
 use lib.Seq.{drop-append_seam}
 use Rattle.std.proofs.lemmas.Bool.Decides.{nat_tests}
 use Rattle.charset.specs.Meaning.{Meaning, Laws}
@@ -12,7 +13,8 @@ use Rattle.transcript.specs.Calls.{Snapshot, OfferAnswer, limits, Worked, Offere
 use Rattle.transcript.specs.Snapshots.{Possible, Settles}
 
 -- a character has one to four bytes
-pub spelt_size : {m : Meaning} → Laws m → (cs s : List ℕ) → Spells m cs s → (length cs ≤ length s) × (length s ≤ 4 * length cs)
+pub spelt_size : {m : Meaning} → Laws m → (cs s : List ℕ) → Spells m cs s
+    → (length cs ≤ length s) × (length s ≤ 4 * length cs)
 spelt_size l [] s p = rw p (omega arith, omega arith)
 spelt_size l (c ∷ cs) s p =
     let one = l.sized p.0 c (l.written c p.0 p.2) in
@@ -20,11 +22,13 @@ spelt_size l (c ∷ cs) s p =
     let size = ap length p.3 ∙ length-append p.0 p.1 in
     (omega (arith, one.0, more.0, size), omega (arith, one.1, more.1, size))
 
-module _ (S T : Meaning) (l : Laws S) (k : Laws T) (s : Snapshot) (sector out after : List ℕ) (run : Run) (h : Runs S T (s.held ++ sector) out after run) where
+module _ (S T : Meaning) (l : Laws S) (k : Laws T) (s : Snapshot) (sector out after : List ℕ)
+    (run : Run) (h : Runs S T (s.held ++ sector) out after run) where
   rest_is : drop run.read (s.held ++ sector) ≡ h.reaches.rest
   rest_is = rw (h.read, h.reaches.leads.begins) (drop-append_seam h.source h.reaches.rest)
 
-  opening_short : (e : End) → e ≡ Ok pause.Open → (rest : List ℕ) (used room : ℕ) → Stops S T rest used room e → length rest ≤ 3
+  opening_short : (e : End) → e ≡ Ok pause.Open → (rest : List ℕ) (used room : ℕ)
+      → Stops S T rest used room e → length rest ≤ 3
   opening_short e f rest used room st = l.opening_sized rest (subst (Stops S T rest used room) f st)
 
   pub possible : limits s.taken sector out ≡ None → Possible s sector run
@@ -32,18 +36,22 @@ module _ (S T : Meaning) (l : Laws S) (k : Laws T) (s : Snapshot) (sector out af
       let from = spelt_size l h.chars h.source h.reaches.leads.from in
       let into = spelt_size k h.chars h.target h.reaches.leads.into in
       let c = h.characters in let r = h.read in let w = h.written in
-      let whole = sym (length-append s.held sector) ∙ ap length h.reaches.leads.begins ∙ length-append h.source h.reaches.rest in
+      let whole = sym (length-append s.held sector) ∙ ap length h.reaches.leads.begins
+      ∙ length-append h.source h.reaches.rest in
       record {
         within = omega arith;
         one_byte_each = omega (arith, from.0);
         four_bytes_each = omega (arith, from.1);
         one_written_each = omega (arith, into.0);
         four_written_each = omega (arith, into.1);
-        opening = λ o. rw rest_is (opening_short run.end o h.reaches.rest (length h.target) (length out) h.reaches.stops);
+        opening =
+            λ o. rw rest_is (opening_short run.end o h.reaches.rest (length h.target) (length out)
+            h.reaches.stops);
         limit = grind (arith, nat_tests);
       }
 
-  worked : (r : OfferAnswer) (t : Snapshot) → Settles s sector run r t → Worked S T s sector out r after t
+  worked : (r : OfferAnswer) (t : Snapshot) → Settles s sector run r t
+      → Worked S T s sector out r after t
   worked r t st =
       let done = st.by_lists h.chars h.source h.target h.characters h.read h.written in
       record {
@@ -57,5 +65,7 @@ module _ (S T : Meaning) (l : Laws S) (k : Laws T) (s : Snapshot) (sector out af
         next = done.1 ∙ rw rest_is refl;
       }
 
-  pub offered_open : limits s.taken sector out ≡ None → (r : OfferAnswer) (t : Snapshot) → Settles s sector run r t → OfferedIf (limits s.taken sector out) S T s sector out r after t
-  offered_open e r t st = subst (λ o. OfferedIf o S T s sector out r after t) (sym e) (worked r t st)
+  pub offered_open : limits s.taken sector out ≡ None → (r : OfferAnswer) (t : Snapshot)
+      → Settles s sector run r t → OfferedIf (limits s.taken sector out) S T s sector out r after t
+  offered_open e r t st =
+      subst (λ o. OfferedIf o S T s sector out r after t) (sym e) (worked r t st)

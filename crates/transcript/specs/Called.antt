@@ -1,4 +1,4 @@
--- One call, with its buffers, as a step of a use. Assumes nothing.
+-- One call, with its buffers, as a step of a use.
 use Rattle.std.specs.Prelude.{◌≡◌, ℕ, ◌⊎◌, List, [], Ok, Err, Result}
 use Rattle.std.proofs.Common.{inl, inr}
 use Rattle.std.specs.Borrow.{Bor, MutBor}
@@ -31,8 +31,10 @@ abbrev pub closed : CloseAnswer → Result Answer Refusal
 closed (Ok u) = Ok answer.Closed
 closed (Err q) = Err q
 
-abbrev pub Called : Meaning → Meaning → Snapshot → Call → Snapshot → Returned → Result Answer Refusal → Type 0
+abbrev pub Called : Meaning → Meaning → Snapshot → Call → Snapshot → Returned
+    → Result Answer Refusal → Type 0
 Called S T s call.Start t g r = Step S T s start t × (r ≡ Ok answer.Started)
-Called S T s (call.Offer i o) t g r = (a : OfferAnswer) × Step S T s (offer i.now o.now a (output_after g)) t × (r ≡ offered a)
+Called S T s (call.Offer i o) t g r =
+    (a : OfferAnswer) × Step S T s (offer i.now o.now a (output_after g)) t × (r ≡ offered a)
 Called S T s call.Close t g r = (a : CloseAnswer) × Step S T s (close a) t × (r ≡ closed a)
 Called S T s call.Status t g r = (a : Status) × Step S T s (status a) t × (r ≡ Ok (answer.Told a))

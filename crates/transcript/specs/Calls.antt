@@ -1,5 +1,6 @@
--- What each call answers and leaves. Assumes nothing.
-use Rattle.std.specs.Prelude.{◌≡◌, ℕ, ◌+◌, ◌-◌, cond, List, [], ◌∷◌, ◌++◌, length, drop, Some, None, Ok, Err, Option, Result, nat_lt}
+-- What each call answers and leaves.
+use Rattle.std.specs.Prelude.{◌≡◌, ℕ, ◌+◌, ◌-◌, cond, List, [], ◌∷◌, ◌++◌, length, drop, Some, None}
+use Rattle.std.specs.Prelude.{Ok, Err, Option, Result, nat_lt}
 use Rattle.charset.specs.Meaning.{Meaning}
 use Rattle.conversion.specs.declared.Fault.{Fault}
 use Rattle.conversion.specs.declared.Fault.TheVariants.{Unfinished}
@@ -13,7 +14,8 @@ use Rattle.answers.specs.declared.Status.{Status}
 use Rattle.answers.specs.declared.Refusal.{Refusal}
 use Rattle.answers.specs.declared.Refusal.TheVariants as refusal
 
--- a transcript without its sets: its state, what it has counted since the start, and the bytes it holds
+-- a transcript without its sets: its state, what it has counted since the start, and the bytes it
+-- holds
 pub record Snapshot : Type 0 where
   pub state : State
   pub taken : ℕ
@@ -25,7 +27,15 @@ abbrev pub fresh : Snapshot
 fresh = record { state = Open; taken = 0; characters = 0; written = 0; held = [] }
 
 abbrev pub with_state : Snapshot → State → Snapshot
-with_state s p = record { state = p; taken = s.taken; characters = s.characters; written = s.written; held = s.held }
+with_state s p =
+    record {
+      state = p;
+      taken = s.taken;
+      characters = s.characters;
+      written = s.written;
+      held =
+          s.held;
+    }
 
 -- what an offer answers, and what a closing answers
 abbrev pub OfferAnswer : Type 0
@@ -45,7 +55,9 @@ fault_at f o n w = record { fault = f; offset = o; done = done n w }
 -- the size limits, in their order
 abbrev pub limits : ℕ → List ℕ → List ℕ → Option Refusal
 limits taken sector out =
-    cond (nat_lt 4096 (length sector)) (Some refusal.SectorTooLong) (cond (nat_lt 65536 (length out)) (Some refusal.OutputTooLong) (cond (nat_lt 4294967296 (taken + length sector)) (Some refusal.SourceTooLong) None))
+    cond (nat_lt 4096 (length sector)) (Some refusal.SectorTooLong)
+    (cond (nat_lt 65536 (length out)) (Some refusal.OutputTooLong)
+    (cond (nat_lt 4294967296 (taken + length sector)) (Some refusal.SourceTooLong) None))
 
 -- the refusals that change nothing, in their order
 abbrev pub refused : State → ℕ → List ℕ → List ℕ → Option Refusal
@@ -53,13 +65,15 @@ refused Closed taken sector out = Some refusal.AlreadyClosed
 refused (Faulted f) taken sector out = Some (refusal.Standing f)
 refused Open taken sector out = limits taken sector out
 
--- the sector bytes that an offer takes: all, unless something stops it, and then those of written characters
+-- the sector bytes that an offer takes: all, unless something stops it, and then those of written
+-- characters
 abbrev pub takes : End → (held sector source : List ℕ) → ℕ
 takes (Ok pause.Open) held sector source = length sector
 takes (Ok pause.Full) held sector source = length source - length held
 takes (Err f) held sector source = length source - length held
 
--- the bytes held after it: what remains, or, where something stops it, those held before unless a character was written
+-- the bytes held after it: what remains, or, where something stops it, those held before unless a
+-- character was written
 abbrev pub unless_any : (chars held : List ℕ) → List ℕ
 unless_any [] held = held
 unless_any (c ∷ cs) held = []
@@ -83,7 +97,8 @@ abbrev pub offset_of : Snapshot → (source : List ℕ) → ℕ
 offset_of s source = s.taken - length s.held + length source
 
 -- an offer that no refusal kept from its work: characters that fit lead to an end, and are written
-pub record Worked (S T : Meaning) (s : Snapshot) (sector out : List ℕ) (r : OfferAnswer) (after : List ℕ) (t : Snapshot) : Type 0 where
+pub record Worked (S T : Meaning) (s : Snapshot) (sector out : List ℕ) (r : OfferAnswer)
+    (after : List ℕ) (t : Snapshot) : Type 0 where
   pub chars : List ℕ
   pub source : List ℕ
   pub target : List ℕ
@@ -99,12 +114,15 @@ pub record Worked (S T : Meaning) (s : Snapshot) (sector out : List ℕ) (r : Of
     held = holds end s.held chars reaches.rest;
   }
 
-abbrev pub OfferedIf : Option Refusal → Meaning → Meaning → Snapshot → List ℕ → List ℕ → OfferAnswer → List ℕ → Snapshot → Type 0
+abbrev pub OfferedIf : Option Refusal → Meaning → Meaning → Snapshot → List ℕ → List ℕ → OfferAnswer
+    → List ℕ → Snapshot → Type 0
 OfferedIf (Some q) S T s sector out r after t = (r ≡ Err q) × (after ≡ out) × (t ≡ s)
 OfferedIf None S T s sector out r after t = Worked S T s sector out r after t
 
-abbrev pub Offered : Meaning → Meaning → Snapshot → (sector out : List ℕ) → OfferAnswer → (after : List ℕ) → Snapshot → Type 0
-Offered S T s sector out r after t = OfferedIf (refused s.state s.taken sector out) S T s sector out r after t
+abbrev pub Offered : Meaning → Meaning → Snapshot → (sector out : List ℕ) → OfferAnswer
+    → (after : List ℕ) → Snapshot → Type 0
+Offered S T s sector out r after t =
+    OfferedIf (refused s.state s.taken sector out) S T s sector out r after t
 
 -- ---- a closing
 
@@ -115,9 +133,18 @@ abbrev pub ClosedOn : State → (held : List ℕ) → Snapshot → CloseAnswer �
 ClosedOn Closed held s r t = (r ≡ Err refusal.AlreadyClosed) × (t ≡ s)
 ClosedOn (Faulted f) held s r t = (r ≡ Err (refusal.Standing f)) × (t ≡ s)
 ClosedOn Open [] s r t = (r ≡ Ok tt) × (t ≡ with_state s Closed)
-ClosedOn Open (b ∷ bs) s r t = (r ≡ Err (refusal.Faulted (unfinished s))) × (t ≡ with_state s (Faulted (unfinished s)))
+ClosedOn Open (b ∷ bs) s r t =
+    (r ≡ Err (refusal.Faulted (unfinished s))) × (t ≡ with_state s (Faulted (unfinished s)))
 
 -- ---- a status call
 
 abbrev pub status_of : Snapshot → Status
-status_of s = record { taken = s.taken; characters = s.characters; written = s.written; held = length s.held; state = s.state }
+status_of s =
+    record {
+      taken = s.taken;
+      characters = s.characters;
+      written = s.written;
+      held =
+          length s.held;
+      state = s.state;
+    }

@@ -1,16 +1,27 @@
--- The progress of a transcript as a snapshot, and how it moves on. Assumes nothing.
-use Rattle.std.specs.Prelude.{◌≡◌, ℕ, zero, suc, ◌+◌, ◌*◌, ◌≤◌, List, [], ◌++◌, length, drop, Some, None, Option, Ok, Err, Result}
+-- The progress of a transcript as a snapshot, and how it moves on.
+use Rattle.std.specs.Prelude.{◌≡◌, ℕ, zero, suc, ◌+◌, ◌*◌, ◌≤◌, List, [], ◌++◌, length, drop, Some}
+use Rattle.std.specs.Prelude.{None, Option, Ok, Err, Result}
 use Rattle.conversion.specs.declared.Pause.TheVariants as pause
 use Rattle.conversion.specs.declared.Run.{Run}
 use Rattle.answers.specs.declared.Refusal.{Refusal}
 use Rattle.answers.specs.declared.Status.{Status}
 use Rattle.transcript.specs.declared.progress.Progress.{Progress}
-use Rattle.transcript.specs.Calls.{Snapshot, OfferAnswer, limits, takes, holds, answers, state_after, offset_of}
+use Rattle.transcript.specs.Calls.{Snapshot, OfferAnswer, limits, takes, holds, answers}
+use Rattle.transcript.specs.Calls.{state_after, offset_of}
 
 abbrev pub snapshot : Progress → Snapshot
-snapshot k = record { state = k.state; taken = k.taken; characters = k.characters; written = k.written; held = k.held }
+snapshot k =
+    record {
+      state = k.state;
+      taken = k.taken;
+      characters = k.characters;
+      written =
+          k.written;
+      held = k.held;
+    }
 
--- the counts of every transcript keep these bounds: a character has one to four bytes, in the source and in the target
+-- the counts of every transcript keep these bounds: a character has one to four bytes, in the
+-- source and in the target
 pub record Counts (s : Snapshot) : Type 0 where
   pub read_least : s.characters + length s.held ≤ s.taken
   pub read_most : s.taken ≤ 4 * s.characters + length s.held
@@ -20,7 +31,15 @@ pub record Counts (s : Snapshot) : Type 0 where
 
 -- the snapshot of which a status was told while these bytes were held
 abbrev pub told_with : Status → List ℕ → Snapshot
-told_with u held = record { state = u.state; taken = u.taken; characters = u.characters; written = u.written; held = held }
+told_with u held =
+    record {
+      state = u.state;
+      taken = u.taken;
+      characters = u.characters;
+      written =
+          u.written;
+      held = held;
+    }
 
 abbrev pub Restored : Status → List ℕ → Option Progress → Type 0
 Restored u held (Some p) = (u.held ≡ length held) × (snapshot p ≡ told_with u held)
@@ -47,11 +66,16 @@ pub record Possible (s : Snapshot) (sector : List ℕ) (run : Run) : Type 0 wher
   pub limit : s.taken + length sector ≤ 4294967296
 
 -- the answer and the next snapshot, for characters of these lengths
-pub record Settles (s : Snapshot) (sector : List ℕ) (run : Run) (r : OfferAnswer) (t : Snapshot) : Type 0 where
-  pub by_lists : (chars source target : List ℕ) → run.characters ≡ length chars → run.read ≡ length source → run.written ≡ length target
-      → (r ≡ answers run.end (offset_of s source) (takes run.end s.held sector source) (length target))
+pub record Settles (s : Snapshot) (sector : List ℕ) (run : Run) (r : OfferAnswer)
+    (t : Snapshot) : Type 0 where
+  pub by_lists : (chars source target : List ℕ) → run.characters ≡ length chars
+      → run.read ≡ length source → run.written ≡ length target
+      → (r ≡ answers run.end (offset_of s source) (takes run.end s.held sector source)
+      (length target))
       × (t ≡ record {
-        state = state_after run.end (offset_of s source) (takes run.end s.held sector source) (length target);
+        state =
+            state_after run.end (offset_of s source) (takes run.end s.held sector source)
+            (length target);
         taken = s.taken + takes run.end s.held sector source;
         characters = s.characters + length chars;
         written = s.written + length target;

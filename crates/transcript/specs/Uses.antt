@@ -1,11 +1,14 @@
--- A use of a transcript: calls in any order and number, the newest first. Assumes nothing.
+-- A use of a transcript: calls in any order and number, the newest first.
 use Rattle.std.specs.Prelude.{◌≡◌, ℕ, List, [], ◌∷◌, ◌++◌, take, Ok, Err}
 use Rattle.charset.specs.Meaning.{Meaning}
 use Rattle.answers.specs.declared.Status.{Status}
-use Rattle.answers.specs.declared.Refusal.TheVariants.{SectorTooLong, OutputTooLong, SourceTooLong, Standing, AlreadyClosed, Faulted, Full}
-use Rattle.transcript.specs.Calls.{Snapshot, fresh, OfferAnswer, CloseAnswer, Offered, ClosedOn, status_of}
+use Rattle.answers.specs.declared.Refusal.TheVariants.{SectorTooLong, OutputTooLong, SourceTooLong}
+use Rattle.answers.specs.declared.Refusal.TheVariants.{Standing, AlreadyClosed, Faulted, Full}
+use Rattle.transcript.specs.Calls.{Snapshot, fresh, OfferAnswer, CloseAnswer, Offered, ClosedOn}
+use Rattle.transcript.specs.Calls.{status_of}
 
--- a call with its buffers and its answer: an offer has its sector, its output before, and its output after
+-- a call with its buffers and its answer: an offer has its sector, its output before, and its
+-- output after
 pub data Event : Type 0 where
   start : Event
   offer : (sector out : List ℕ) → OfferAnswer → (after : List ℕ) → Event
@@ -22,7 +25,8 @@ Step S T s (status r) t = (r ≡ status_of s) × (t ≡ s)
 -- making a transcript starts it
 pub data Use (S T : Meaning) : List Event → Snapshot → Type 0 where
   made : Use S T (start ∷ []) fresh
-  call : {past : List Event} {s t : Snapshot} {e : Event} → Use S T past s → Step S T s e t → Use S T (e ∷ past) t
+  call : {past : List Event} {s t : Snapshot} {e : Event} → Use S T past s → Step S T s e t
+      → Use S T (e ∷ past) t
 
 -- how many bytes an answer tells taken and written by that offer
 abbrev pub took : OfferAnswer → ℕ

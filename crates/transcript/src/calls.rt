@@ -85,7 +85,8 @@ impl<S: CharacterSet, T: CharacterSet> Transcript<S, T> {
         let _ = self.call(Call::Start);
     }
 
-    // Reads the held bytes and then the sector from the front, and writes each character behind the one before.
+    // Reads the held bytes and then the sector from the front, and writes each character behind the
+    // one before.
     pub fn offer(&mut self, sector: &[u8], output: &mut [u8]) -> Result<Done, Refusal>
         ensures sets { (self.new.converter.sets.source ≡ self.old.converter.sets.source) × (self.new.converter.sets.target ≡ self.old.converter.sets.target) }
         ensures told { Step (set_of S.CharacterSet self.old.converter.sets.source) (set_of T.CharacterSet self.old.converter.sets.target) (snapshot self.old.progress) (offer sector.now output.old result output.new) (snapshot self.new.progress) }

@@ -1,4 +1,5 @@
-// A transcript: text from one character set into another, sector by sector, with what it answers and what it counts.
+// A transcript: text from one character set into another, sector by sector, with what it answers
+// and what it counts.
 #![tactic(auto)]
 
 mod calls;

@@ -1,4 +1,5 @@
-// How far a transcript has come since it was started: its state, what it has counted, and the bytes it holds.
+// How far a transcript has come since it was started: its state, what it has counted, and the bytes
+// it holds.
 ghost use Rattle.std.specs.Prelude.{◌+◌, ◌*◌, ◌≤◌, length};
 
 use crate::{LONGEST_OUTPUT, LONGEST_SECTOR, LONGEST_SOURCE};

@@ -10,8 +10,8 @@ use charset::{CharacterSet, Front};
 use conversion::Converter;
 
 impl Progress {
-    // The progress of which this status was told while these bytes were held; none where its counts break the bounds of every transcript, or
-    // it tells of another number of bytes held.
+    // The progress of which this status was told while these bytes were held; none where its counts
+    // break the bounds of every transcript, or it tells of another number of bytes held.
     pub fn of(status: Status, held: Front) -> Option<Progress>
         ensures { Restored status held result }
     {

@@ -1,4 +1,5 @@
-// Transcripts between the sets of this repository: every refusal but 3 from every state, and the edges of an offer.
+// Transcripts between the sets of this repository: every refusal but 3 from every state, and the
+// edges of an offer.
 use answers::{Done, FaultAt, Refusal, State, Status};
 use charset::SetRefusal;
 use conversion::Fault;

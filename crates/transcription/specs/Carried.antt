@@ -1,5 +1,6 @@
--- What carrying out a use of a transcript on a text comes to. Assumes nothing.
-use Rattle.std.specs.Prelude.{◌≡◌, ℕ, ◌⊎◌, List, [], ◌∷◌, length, Some, None, Ok, Err, Option, Result}
+-- What carrying out a use of a transcript on a text comes to.
+use Rattle.std.specs.Prelude.{◌≡◌, ℕ, ◌⊎◌, List, [], ◌∷◌, length, Some, None, Ok, Err, Option}
+use Rattle.std.specs.Prelude.{Result}
 use Rattle.charset.specs.Meaning.{Meaning}
 use Rattle.conversion.specs.declared.Fault.{Fault}
 use Rattle.answers.specs.declared.FaultAt.{FaultAt}
@@ -47,14 +48,17 @@ AllTakenOrFaulted (offer sector out r after ∷ past) = TakenOrFaulted r × AllT
 AllTakenOrFaulted (close r ∷ past) = AllTakenOrFaulted past
 AllTakenOrFaulted (status r ∷ past) = AllTakenOrFaulted past
 
--- after offers of the bytes a last one faulted, or they were all taken and a closing was answered; then came a status call
+-- after offers of the bytes a last one faulted, or they were all taken and a closing was answered;
+-- then came a status call
 abbrev pub Ended : List ℕ → List Event → List Event → Snapshot → Outcome → Status → Type 0
 Ended bytes offers events last outcome told =
-    ((f : FaultAt) × (outcome ≡ Err f) × (last.state ≡ state.Faulted f) × (events ≡ status told ∷ offers))
+    ((f : FaultAt) × (outcome ≡ Err f) × (last.state ≡ state.Faulted f)
+    × (events ≡ status told ∷ offers))
     ⊎ ((taken_in offers ≡ bytes) × (events ≡ status told ∷ (close (refused_by outcome) ∷ offers)))
 
 -- a use of a transcript in which the bytes were offered, and what it came to
-pub record CarriedOut (S T : Meaning) (bytes text : List ℕ) (characters : ℕ) (outcome : Outcome) : Type 0 where
+pub record CarriedOut (S T : Meaning) (bytes text : List ℕ) (characters : ℕ)
+    (outcome : Outcome) : Type 0 where
   pub offers : List Event
   pub events : List Event
   pub last : Snapshot

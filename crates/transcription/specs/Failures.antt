@@ -1,4 +1,4 @@
--- When a text is too long for a transcript, and how it is said. Assumes nothing.
+-- When a text is too long for a transcript, and how it is said.
 use Rattle.std.specs.Prelude.{ℕ, ◌<◌, ◌≤◌, List, length, Ok, Err, codes, Result}
 use Rattle.transcription.specs.declared.Failure.{Failure}
 use Rattle.transcription.specs.declared.Failure.TheVariants.{NoMemory, TooLong}

@@ -75,7 +75,8 @@ impl Transcription {
     }
 }
 
-// Room for what an offer can write: four bytes for each byte of a sector and each of the three that can be held.
+// Room for what an offer can write: four bytes for each byte of a sector and each of the three that
+// can be held.
 const ROOM: usize = 4 * (LONGEST_SECTOR + 3);
 
 // The fault that a refusal is.
@@ -89,7 +90,8 @@ fn fault_of(refusal: Refusal) -> FaultAt
     fault
 }
 
-// Offers the bytes to a transcript, sector after sector, until a fault or the end, and closes it at the end.
+// Offers the bytes to a transcript, sector after sector, until a fault or the end, and closes it at
+// the end.
 #[tactic(auto, using(law::proofs::Whole::the_law))]
 pub fn transcribe<S: CharacterSet + Drop, T: CharacterSet + Drop>(
     heap: Global,

@@ -1,14 +1,17 @@
--- A set that is lawful and odd: openings that begin no coding, codings with bytes 19 and 80 to 9F, a surrogate and U+0000 as
--- characters, and causes as deep as can be. Assumes nothing.
-use Rattle.std.specs.Prelude.{ℕ, Bool, true, false, cond, ◌&&◌, ◌||◌, List, [], ◌∷◌, Some, None, Option, ◌==◌}
+-- A set that is lawful and odd: openings that begin no coding, codings with bytes 19 and 80 to 9F,
+-- a surrogate and U+0000 as characters, and causes as deep as can be.
+use Rattle.std.specs.Prelude.{ℕ, Bool, true, false, cond, ◌&&◌, ◌||◌, List, [], ◌∷◌, Some, None}
+use Rattle.std.specs.Prelude.{Option, ◌==◌}
 use Rattle.charset.specs.declared.SetRefusal.{SetRefusal}
 use Rattle.charset.specs.Meaning.{Codings, Meaning, meaning}
 
 abbrev pub odd_single : ℕ → Option ℕ
-odd_single a = cond (a == 0x19) (Some 0) (cond (a == 0x85) (Some 0xd800) (cond (a == 0x20) (Some 0x20) None))
+odd_single a =
+    cond (a == 0x19) (Some 0) (cond (a == 0x85) (Some 0xd800) (cond (a == 0x20) (Some 0x20) None))
 
 abbrev pub odd_pair : ℕ → ℕ → Option ℕ
-odd_pair a b = cond (a == 0x80 && b == 0x9f) (Some 0x10ffff) (cond (a == 0xa0 && b == 0xa1) (Some 0x41) None)
+odd_pair a b =
+    cond (a == 0x80 && b == 0x9f) (Some 0x10ffff) (cond (a == 0xa0 && b == 0xa1) (Some 0x41) None)
 
 -- 43 begins no coding
 abbrev pub odd_opens : ℕ → Bool
@@ -22,8 +25,10 @@ odd_character (a ∷ b ∷ c ∷ s) = None
 
 abbrev pub odd_string : ℕ → Option (List ℕ)
 odd_string c =
-    cond (c == 0) (Some (0x19 ∷ [])) (cond (c == 0xd800) (Some (0x85 ∷ [])) (cond (c == 0x20) (Some (0x20 ∷ []))
-    (cond (c == 0x10ffff) (Some (0x80 ∷ 0x9f ∷ [])) (cond (c == 0x41) (Some (0xa0 ∷ 0xa1 ∷ [])) None))))
+    cond (c == 0) (Some (0x19 ∷ [])) (cond (c == 0xd800) (Some (0x85 ∷ []))
+    (cond (c == 0x20) (Some (0x20 ∷ []))
+    (cond (c == 0x10ffff) (Some (0x80 ∷ 0x9f ∷ []))
+    (cond (c == 0x41) (Some (0xa0 ∷ 0xa1 ∷ [])) None))))
 
 abbrev pub odd_openings : List ℕ → Bool
 odd_openings [] = true

@@ -1,11 +1,13 @@
--- The odd set keeps the laws, and what it cannot read. Assumes nothing.
-use Rattle.std.specs.Prelude.{◌≡◌, ℕ, zero, suc, ◌<◌, ◌≤◌, true, List, [], ◌∷◌, length, take, Some, None, ◌≢◌, slice_index, refl}
+-- The odd set keeps the laws, and what it cannot read.
+use Rattle.std.specs.Prelude.{◌≡◌, ℕ, zero, suc, ◌<◌, ◌≤◌, true, List, [], ◌∷◌, length, take, Some}
+use Rattle.std.specs.Prelude.{None, ◌≢◌, slice_index, refl}
 use Rattle.std.proofs.Common.{arith}
 use Rattle.std.specs.List.{AllByRecursion}
 use Rattle.std.proofs.lemmas.Bool.Decides.{nat_tests}
 use Rattle.charset.specs.Meaning.{Unreadable, Laws}
 use Rattle.charset.proofs.FrontLemmas.{alone, no_front_by, unreadable_here}
-use Rattle.worked_examples.specs.Odd.{odd_pair, odd_opens, odd_character, odd_string, odd_openings, odd}
+use Rattle.worked_examples.specs.Odd.{odd_pair, odd_opens, odd_character, odd_string, odd_openings}
+use Rattle.worked_examples.specs.Odd.{odd}
 
 written : (c : ℕ) (s : List ℕ) → odd_string c ≡ Some s → odd_character s ≡ Some c
 written c s e = grind (arith, nat_tests)
@@ -44,7 +46,8 @@ opening_bytes [] o = tt
 opening_bytes (a ∷ []) o = (grind (arith, nat_tests), tt)
 opening_bytes (a ∷ b ∷ s) o = cc
 
-coding_begins : (s : List ℕ) (c n : ℕ) → odd_character s ≡ Some c → n < length s → odd_openings (take n s) ≡ true
+coding_begins : (s : List ℕ) (c n : ℕ) → odd_character s ≡ Some c → n < length s
+    → odd_openings (take n s) ≡ true
 coding_begins s c zero e h = refl
 coding_begins [] c (suc n) e h = cc
 coding_begins (a ∷ []) c (suc n) e h = absurd (omega arith)
@@ -82,7 +85,8 @@ odd_laws = record {
   cause_stays = λ s n h. refl;
 }
 
-pub bad_second : (s : List ℕ) → 2 ≤ length s → odd_opens (slice_index s 0) ≡ true → odd_pair (slice_index s 0) (slice_index s 1) ≡ None → Unreadable odd s
+pub bad_second : (s : List ℕ) → 2 ≤ length s → odd_opens (slice_index s 0) ≡ true
+    → odd_pair (slice_index s 0) (slice_index s 1) ≡ None → Unreadable odd s
 bad_second [] l h k = absurd (omega arith)
 bad_second (a ∷ []) l h k = absurd (omega arith)
 bad_second (a ∷ b ∷ s) l h k = unreadable_here odd_laws (a ∷ b ∷ s) 1 h k refl

@@ -1,6 +1,7 @@
 // A set of our own making, lawful and odd, for the layers to stand on.
 ghost use Rattle.std.specs.Prelude.{◌≡◌};
-ghost use Rattle.worked_examples.specs.Odd.{odd_single, odd_pair, odd_opens, odd_codings, odd_openings, odd_causes};
+ghost use Rattle.worked_examples.specs.Odd.{odd_single, odd_pair, odd_opens, odd_codings};
+ghost use Rattle.worked_examples.specs.Odd.{odd_openings, odd_causes};
 ghost use Rattle.worked_examples.specs.OddLaws.{odd_laws};
 
 use charset::{CharacterSet, Coding, Reading, SetRefusal};

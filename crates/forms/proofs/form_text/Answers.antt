@@ -3,4 +3,5 @@ use Rattle.forms.proofs.Written.{always_written}
 use Rattle.forms.proofs.form_text.Goals as goal
 
 pub returns-clause-always_written : goal.returns-clause-always_written
-returns-clause-always_written c = always_written c.args.form c.args.bytes.now c.transcribe.result (search rules)
+returns-clause-always_written c =
+    always_written c.args.form c.args.bytes.now c.transcribe.result (search rules)

@@ -4,6 +4,7 @@ use charset::Front;
 #[derive(Clone, Copy)]
 pub struct Scan {
     pub below: Front,
-    // A byte that cannot stand where it does came before the end. A flag, since what stands below is read all the same.
+    // A byte that cannot stand where it does came before the end. A flag, since what stands below
+    // is read all the same.
     pub broken: bool,
 }

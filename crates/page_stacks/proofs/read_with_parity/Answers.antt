@@ -7,5 +7,7 @@ use Rattle.page_stacks.proofs.read_with_parity.Goals as goal
 
 pub returns : goal.returns
 returns c =
-    let chosen : c.with_parity-stack.result.below.chosen ≡ page_controls = ap (λ s. s.chosen) c.with_parity-stack.ensures.on ∙ c.with_controls.ensures.on.1 in
-    subst (λ (given : List Bool). ReadByLaws (parity (controls given (shift iso6937))) c.args.bytes.now c.read_front.result) chosen c.read_front.ensures
+    let chosen : c.with_parity-stack.result.below.chosen ≡ page_controls =
+    ap (λ s. s.chosen) c.with_parity-stack.ensures.on ∙ c.with_controls.ensures.on.1 in
+    subst (λ (given : List Bool). ReadByLaws (parity (controls given (shift iso6937)))
+    c.args.bytes.now c.read_front.result) chosen c.read_front.ensures

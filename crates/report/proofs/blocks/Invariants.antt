@@ -5,4 +5,6 @@ use Rattle.report.specs.Reports.{PagesWritten}
 use Rattle.report.proofs.blocks.Given as goal
 
 abbrev pub invariant-loop-number : goal.invariant-loop-number
-invariant-loop-number l = (source l.number-iterator ≡ bytes_of l.roll) × PagesWritten (bytes_of l.roll) l.number-iterator.past (vec_items l.out)
+invariant-loop-number l =
+    (source l.number-iterator ≡ bytes_of l.roll)
+    × PagesWritten (bytes_of l.roll) l.number-iterator.past (vec_items l.out)

@@ -1,4 +1,5 @@
-// ISO/IEC 6937:1994, Table 4: what the supplementary set codes in one byte, and the letters of each diacritic.
+// ISO/IEC 6937:1994, Table 4: what the supplementary set codes in one byte, and the letters of each
+// diacritic.
 ghost use Rattle.std.specs.Prelude.{◌≡◌};
 ghost use Rattle.std.specs.Option.{option_map};
 ghost use Rattle.sets.specs.Columns.{byte_of};
@@ -14,7 +15,8 @@ struct Diacritic {
     letters: &'static [(u8, u32)],
 }
 
-// Columns 10 to 15, rows 0 to 15; 0 where no character stands alone: a position not in use or a diacritic.
+// Columns 10 to 15, rows 0 to 15; 0 where no character stands alone: a position not in use or a
+// diacritic.
 #[rattlefmt::skip]
 const SUPPLEMENTARY: CodeTable = CodeTable { columns: [
     [0x00A0, 0x00A1, 0x00A2, 0x00A3, 0, 0x00A5, 0, 0x00A7, 0x00A4, 0x2018, 0x201C, 0x00AB, 0x2190, 0x2191, 0x2192, 0x2193],
@@ -25,7 +27,8 @@ const SUPPLEMENTARY: CodeTable = CodeTable { columns: [
     [0x0138, 0x00E6, 0x0111, 0x00F0, 0x0127, 0x0131, 0x0133, 0x0140, 0x0142, 0x00F8, 0x0153, 0x00DF, 0x00FE, 0x0167, 0x014B, 0x00AD],
 ] };
 
-// The small letters first, since they are met most often. By reference: a constant array would be built anew for each search.
+// The small letters first, since they are met most often. By reference: a constant array would be
+// built anew for each search.
 #[rattlefmt::skip]
 const DIACRITICS: &[Diacritic; 13] = &[
     // grave
@@ -123,7 +126,8 @@ pub fn letters_of(mark: u8) -> Option<&'static [(u8, u32)]>
     DIACRITICS.iter().find_map(|diacritic| (diacritic.mark == mark).then_some(diacritic.letters))
 }
 
-// The character of a letter under a diacritic. From the front, as all searches here: by halves, the order would be one more fact to keep.
+// The character of a letter under a diacritic. From the front, as all searches here: by halves, the
+// order would be one more fact to keep.
 pub fn accented(letters: &[(u8, u32)], letter: u8) -> Option<u32>
     ensures { result ≡ accented letter letters.now }
 {
@@ -132,7 +136,8 @@ pub fn accented(letters: &[(u8, u32)], letter: u8) -> Option<u32>
         .find_map(|pair| (pair.0 == letter).then_some(pair.1))
 }
 
-// The letter of a character under a diacritic. A chain beside `accented`: one function for both would take each half of the pair as a closure.
+// The letter of a character under a diacritic. A chain beside `accented`: one function for both
+// would take each half of the pair as a closure.
 fn letter_of(letters: &[(u8, u32)], character: u32) -> Option<u8>
     ensures { result ≡ letter_of character letters.now }
 {

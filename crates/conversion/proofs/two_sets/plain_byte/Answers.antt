@@ -7,16 +7,25 @@ use Rattle.conversion.proofs.PlainBytes.{told, told_plain}
 use Rattle.conversion.proofs.two_sets.plain_byte.Goals as goal
 
 -- where x is what was found
-found : {S : Meaning} (T : Meaning) → Laws S → (b : ℕ) (y : Option (List ℕ × ℕ)) {x : Option (List ℕ × ℕ)} → x ≡ y → ComesNext S T (b ∷ []) (Ok x) → told (Ok y) ≡ plain S T b
+found : {S : Meaning} (T : Meaning) → Laws S
+    → (b : ℕ) (y : Option (List ℕ × ℕ)) {x : Option (List ℕ × ℕ)} → x ≡ y
+    → ComesNext S T (b ∷ []) (Ok x) → told (Ok y) ≡ plain S T b
 found {S} T l b y e h = told_plain T l b (Ok y) (subst (λ x. ComesNext S T (b ∷ []) (Ok x)) e h)
 
 pub returns-in_err-coding-in-Ok : goal.returns-in_err-coding-in-Ok
 returns-in_err-coding-in-Ok g c =
-    c.from_residual.ensures ∙ found (set_of g.T.CharacterSet c.args.target.now) (g.met.S.CharacterSet.lawful c.args.source.now) c.args.byte None c.in_err-coding-in-Ok.was c.in-Ok.ensures
+    c.from_residual.ensures ∙ found (set_of g.T.CharacterSet c.args.target.now)
+    (g.met.S.CharacterSet.lawful c.args.source.now) c.args.byte None c.in_err-coding-in-Ok.was
+    c.in-Ok.ensures
 
 pub returns-in_ok-coding-in-Ok : goal.returns-in_ok-coding-in-Ok
 returns-in_ok-coding-in-Ok g c =
-    c.only_byte.ensures ∙ found (set_of g.T.CharacterSet c.args.target.now) (g.met.S.CharacterSet.lawful c.args.source.now) c.args.byte _ c.in_ok-coding-in-Ok.was c.in-Ok.ensures
+    c.only_byte.ensures ∙ found (set_of g.T.CharacterSet c.args.target.now)
+    (g.met.S.CharacterSet.lawful c.args.source.now) c.args.byte _ c.in_ok-coding-in-Ok.was
+    c.in-Ok.ensures
 
 pub returns-in-Err : goal.returns-in-Err
-returns-in-Err g c = told_plain (set_of g.T.CharacterSet c.args.target.now) (g.met.S.CharacterSet.lawful c.args.source.now) c.args.byte (Err c.in-Err.field-0) c.in-Err.ensures
+returns-in-Err g c =
+    told_plain (set_of g.T.CharacterSet c.args.target.now)
+    (g.met.S.CharacterSet.lawful c.args.source.now) c.args.byte (Err c.in-Err.field-0)
+    c.in-Err.ensures

@@ -10,4 +10,7 @@ pub returns : goal.returns
 unfolding required
 returns c =
     let xs = c.args.numbers.now in
-    first_missing xs c.find.result (first_from_find _ _ c.find.result (λ d. on_list xs d ≡ false) (λ d. on_list xs d ≡ true) c.find.ensures.ran (YieldsList-from_copied (YieldsList-from_slice required (cc))) (λ d q k. search (rules, tests)) (λ d q k. search (rules, tests)))
+    first_missing xs c.find.result (first_from_find _ _ c.find.result (λ d. on_list xs d ≡ false)
+    (λ d. on_list xs d ≡ true) c.find.ensures.ran
+    (YieldsList-from_copied (YieldsList-from_slice required (cc)))
+    (λ d q k. search (rules, tests)) (λ d q k. search (rules, tests)))

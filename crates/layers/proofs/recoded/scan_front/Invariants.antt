@@ -8,6 +8,7 @@ invariant-loop-byte g l =
     let r = g.F.ByteForm.recoding l.form in
     record {
       few : length l.below ≤ l.byte-index;
-      stands : below r false l.byte-items ≡ l.below ++ below r l.held (drop l.byte-index l.byte-items);
+      stands : below r false l.byte-items ≡ l.below
+          ++ below r l.held (drop l.byte-index l.byte-items);
       goes_on : ends r false l.byte-items ≡ ends r l.held (drop l.byte-index l.byte-items);
     }

@@ -6,4 +6,5 @@ pub returns-clause-keeps_laws : goal.returns-clause-keeps_laws
 returns-clause-keeps_laws g c = sub_laws c.args.list (g.met.S.CharacterSet.lawful c.args.below)
 
 pub returns-clause-means_subrepertoire : goal.returns-clause-means_subrepertoire
-returns-clause-means_subrepertoire g c = sub_meaning c.args.list _ (g.met.S.CharacterSet.lawful c.args.below)
+returns-clause-means_subrepertoire g c =
+    sub_meaning c.args.list _ (g.met.S.CharacterSet.lawful c.args.below)

@@ -5,5 +5,6 @@ use Rattle.packing.proofs.builder.write_index.Given as goal
 abbrev pub invariant-loop-entry : goal.invariant-loop-entry
 invariant-loop-entry l = record {
   fits : l.offset + sum_by (λ e. e.size) (drop l.entry-index l.entries) ≤ 1048576;
-  written : l.roll.items ++ index_of l.offset (drop l.entry-index l.entries) ≡ l.initial.roll.items ++ index_of 0 l.entries;
+  written : l.roll.items ++ index_of l.offset (drop l.entry-index l.entries) ≡ l.initial.roll.items
+      ++ index_of 0 l.entries;
 }

@@ -14,13 +14,21 @@ pub returns-in_err-progress : goal.returns-in_err-progress
 returns-in_err-progress c =
     let first = c.followed_by-held.ensures ∙ rw (c.empty.ensures, c.min.ensures) refl in
     rw c.from_residual-in_err-progress.ensures
-    (λ f g s k. no_progress c.args.kept.now c.in_ok-status.status c.in_ok-status.ensures f g s k c.followed_by-held.result first c.in_err-progress.ensures)
+    (λ f g s k. no_progress c.args.kept.now c.in_ok-status.status c.in_ok-status.ensures f g s k
+    c.followed_by-held.result first c.in_err-progress.ensures)
 
 pub returns : goal.returns
 returns c =
     let come = c.in_ok-progress.ensures in
-    let equal = slice_eq-Decides Decides-eqb c.places.result c.args.kept.now.bytes c.eq.result c.eq.ensures in
-    rw c.then_some.ensures (if_so (λ k. Keeps c.args.kept.now k.source k.target (snapshot k.progress)) c.eq.result _
-    (λ y. keeps c.args.kept.now c.in_ok-source.source c.in_ok-target.target c.in_ok-progress.progress c.in_ok-status.status c.followed_by-held.result c.in_ok-status.ensures come.0 come.1
+    let equal = slice_eq-Decides Decides-eqb c.places.result c.args.kept.now.bytes c.eq.result
+    c.eq.ensures in
+    rw c.then_some.ensures
+    (if_so (λ k. Keeps c.args.kept.now k.source k.target (snapshot k.progress)) c.eq.result _
+    (λ y. keeps c.args.kept.now c.in_ok-source.source c.in_ok-target.target
+    c.in_ok-progress.progress c.in_ok-status.status c.followed_by-held.result
+    c.in_ok-status.ensures come.0 come.1
     (search rules) (search rules) (rw (← c.places.ensures) (equal.0 y)) (search rules))
-    (λ n f g s k. false≢true (sym n ∙ equal.1 (c.places.ensures ∙ same_places c.args.kept.now c.in_ok-status.status c.in_ok-status.ensures f g s k c.followed_by-held.result (c.followed_by-held.ensures ∙ rw (c.empty.ensures, c.min.ensures) refl)))))
+    (λ n f g s k. false≢true
+    (sym n ∙ equal.1 (c.places.ensures ∙ same_places c.args.kept.now c.in_ok-status.status
+    c.in_ok-status.ensures f g s k c.followed_by-held.result
+    (c.followed_by-held.ensures ∙ rw (c.empty.ensures, c.min.ensures) refl)))))

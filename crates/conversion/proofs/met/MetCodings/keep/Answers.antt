@@ -5,16 +5,22 @@ use Rattle.conversion.proofs.met.MetCodings.keep.Goals as goal
 
 pub returns-in-2-len2-up : goal.returns-in-2-len2-up
 returns-in-2-len2-up c S T right becoming s v k =
-    let front = ap (λ n. take n c.args.input.now) c.in-2-len2-up.is-0 ∙ two c.args.input.now c.in-2-len2-up.len_at_least in
+    let front = ap (λ n. take n c.args.input.now) c.in-2-len2-up.is-0
+    ∙ two c.args.input.now c.in-2-len2-up.len_at_least in
     elim k [
-      | inl p ↦ right_besides S T c.args.self.now.pairs.kept c.place.result _ c.args.coding (sym (ap (becomes S T) front) ∙ becoming) (λ s v k. right s v (inl k)) s v (rw (← c.keep.ensures) p)
+      | inl p ↦ right_besides S T c.args.self.now.pairs.kept c.place.result _ c.args.coding
+          (sym (ap (becomes S T) front) ∙ becoming) (λ s v k. right s v (inl k)) s v
+          (rw (← c.keep.ensures) p)
       | inr p ↦ right s v (inr p)
     ]
 
 pub returns-in-3-len3-up : goal.returns-in-3-len3-up
 returns-in-3-len3-up c S T right becoming s v k =
-    let front = ap (λ n. take n c.args.input.now) c.in-3-len3-up.is-0 ∙ three c.args.input.now c.in-3-len3-up.len_at_least in
+    let front = ap (λ n. take n c.args.input.now) c.in-3-len3-up.is-0
+    ∙ three c.args.input.now c.in-3-len3-up.len_at_least in
     elim k [
       | inl p ↦ right s v (inl p)
-      | inr p ↦ right_besides S T c.args.self.now.triples.kept c.place-in-3-len3-up.result _ c.args.coding (sym (ap (becomes S T) front) ∙ becoming) (λ s v k. right s v (inr k)) s v (rw (← c.keep-in-3-len3-up.ensures) p)
+      | inr p ↦ right_besides S T c.args.self.now.triples.kept c.place-in-3-len3-up.result _
+          c.args.coding (sym (ap (becomes S T) front) ∙ becoming) (λ s v k. right s v (inr k)) s v
+          (rw (← c.keep-in-3-len3-up.ensures) p)
     ]

@@ -9,4 +9,6 @@ returns-clause-right g c =
     let s = set_of g.S.CharacterSet c.args.self.now.source in
     let t = set_of g.T.CharacterSet c.args.self.now.target in
     c.keep.ensures s t c.requires
-    (next_becomes s t c.args.input.now c.in-Some-2.found.0 c.in-Some-2.found.1 (subst (ComesNext s t c.args.input.now) (c.in_ok-found.was ∙ ap Ok c.in-Some-2.is) c.next_coding.ensures))
+    (next_becomes s t c.args.input.now c.in-Some-2.found.0 c.in-Some-2.found.1
+    (subst (ComesNext s t c.args.input.now) (c.in_ok-found.was ∙ ap Ok c.in-Some-2.is)
+    c.next_coding.ensures))

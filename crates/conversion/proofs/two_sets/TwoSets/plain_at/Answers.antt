@@ -6,12 +6,17 @@ use Rattle.conversion.proofs.Windows.{behind}
 use Rattle.conversion.proofs.two_sets.TwoSets.plain_at.Goals as goal
 
 seen : (S T : Meaning) (held sector out out' : List ℕ) (at n b : ℕ) → b ≡ length held → b ≤ at
-    → Far S T (take (length sector - (at - b)) (drop (at - b) sector)) out out' n n n → Far S T (drop at (held ++ sector)) out out' n n n
+    → Far S T (take (length sector - (at - b)) (drop (at - b) sector)) out out' n n n
+    → Far S T (drop at (held ++ sector)) out out' n n n
 seen S T held sector out out' at n b e h far =
-    let same : take (length sector - (at - b)) (drop (at - b) sector) ≡ drop at (held ++ sector) = rw e (behind held sector at (rw e at h)) in
+    let same : take (length sector - (at - b)) (drop (at - b) sector) ≡ drop at (held ++ sector) =
+    rw e (behind held sector at (rw e at h)) in
     subst (λ z. Far S T z out out' n n n) same far
 
 pub returns : goal.returns
 returns g c =
-    seen (set_of g.S.CharacterSet c.args.self.now.source) (set_of g.T.CharacterSet c.args.self.now.target) c.args.held c.args.sector.now c.args.output.now c.copy_plain.new.output
-    c.args.at c.copy_plain.result c.len-behind.result c.len-behind.ensures.value c.if-at-behind.false c.copy_plain.ensures
+    seen (set_of g.S.CharacterSet c.args.self.now.source)
+    (set_of g.T.CharacterSet c.args.self.now.target) c.args.held c.args.sector.now
+    c.args.output.now c.copy_plain.new.output
+    c.args.at c.copy_plain.result c.len-behind.result c.len-behind.ensures.value
+    c.if-at-behind.false c.copy_plain.ensures

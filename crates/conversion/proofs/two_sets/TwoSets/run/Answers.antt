@@ -1,4 +1,5 @@
-use Rattle.std.proofs.Common.{◌≡◌, ℕ, ◌+◌, ◌-◌, ◌≤◌, List, ◌++◌, length, take, drop, Ok, Err, refl, subst, arith}
+use Rattle.std.proofs.Common.{◌≡◌, ℕ, ◌+◌, ◌-◌, ◌≤◌, List, ◌++◌, length, take, drop, Ok, Err, refl}
+use Rattle.std.proofs.Common.{subst, arith}
 use mathlib.Core.Path.{subst₃}
 use borrow.Rule.Slice.PartMut.{put_mid}
 use Rattle.charset.specs.Meaning.{Meaning, Laws}
@@ -18,32 +19,49 @@ part put o = take (length o - put) (drop put o)
 abbrev after : ℕ → List ℕ → List ℕ → List ℕ
 after put o last = put_mid put (length o - put) o last
 
-module _ {S T : Meaning} (l : Laws S) (held sector out o : List ℕ) {count at put : ℕ} (far : Far S T (held ++ sector) out o count at put) where
-  plain : (last : List ℕ) (n : ℕ) → Far S T (drop at (held ++ sector)) (part put o) last n n n → Far S T (held ++ sector) out (after put o last) (count + n) (at + n) (put + n)
-  plain last n more = far_join S T l (held ++ sector) out o count at put far (after put o last) last n more refl
+module _ {S T : Meaning} (l : Laws S) (held sector out o : List ℕ) {count at put : ℕ}
+    (far : Far S T (held ++ sector) out o count at put) where
+  plain : (last : List ℕ) (n : ℕ) → Far S T (drop at (held ++ sector)) (part put o) last n n n
+      → Far S T (held ++ sector) out (after put o last) (count + n) (at + n) (put + n)
+  plain last n more =
+      far_join S T l (held ++ sector) out o count at put far (after put o last) last n more refl
 
   -- where there are none
-  still : (last : List ℕ) (n : ℕ) → n ≤ 0 → Far S T (drop at (held ++ sector)) (part put o) last n n n → Far S T (held ++ sector) out (after put o last) count at put
+  still : (last : List ℕ) (n : ℕ) → n ≤ 0
+      → Far S T (drop at (held ++ sector)) (part put o) last n n n
+      → Far S T (held ++ sector) out (after put o last) count at put
   still last n none more =
-      subst₃ (λ x y z. Far S T (held ++ sector) out (after put o last) x y z) (omega (arith, none)) (omega (arith, none)) (omega (arith, none)) (plain last n more)
+      subst₃ (λ x y z. Far S T (held ++ sector) out (after put o last) x y z) (omega (arith, none))
+      (omega (arith, none)) (omega (arith, none)) (plain last n more)
 
-module _ {S T : Meaning} (l : Laws S) (held sector out o last : List ℕ) {count at put : ℕ} (far : Far S T (held ++ sector) out o count at put) where
-  more : (n k : ℕ) {x : Step} → x ≡ Written n k → Steps S T (drop at (held ++ sector)) (part put o) last (Ok x)
+module _ {S T : Meaning} (l : Laws S) (held sector out o last : List ℕ) {count at put : ℕ}
+    (far : Far S T (held ++ sector) out o count at put) where
+  more : (n k : ℕ) {x : Step} → x ≡ Written n k
+      → Steps S T (drop at (held ++ sector)) (part put o) last (Ok x)
       → Far S T (held ++ sector) out (after put o last) (count + 1) (at + n) (put + k)
-  more n k e s = far_more S T l (held ++ sector) out o count at put far _ last n k (subst (λ z. Steps S T (drop at (held ++ sector)) (part put o) last (Ok z)) e s) refl
+  more n k e s =
+      far_more S T l (held ++ sector) out o count at put far _ last n k
+      (subst (λ z. Steps S T (drop at (held ++ sector)) (part put o) last (Ok z)) e s) refl
 
-  ends : (p : Pause) {x : Step} → x ≡ Paused p → Steps S T (drop at (held ++ sector)) (part put o) last (Ok x)
-      → Runs S T (held ++ sector) out (after put o last) (record { characters = count; read = at; written = put; end = Ok p })
-  ends p e s = let w = subst (λ z. Steps S T (drop at (held ++ sector)) (part put o) last (Ok z)) e s in far_ends S T l (held ++ sector) out o count at put far (Ok p) _ last w.0 w.1 refl
+  ends : (p : Pause) {x : Step} → x ≡ Paused p
+      → Steps S T (drop at (held ++ sector)) (part put o) last (Ok x)
+      → Runs S T (held ++ sector) out (after put o last)
+      (record { characters = count; read = at; written = put; end = Ok p })
+  ends p e s =
+      let w = subst (λ z. Steps S T (drop at (held ++ sector)) (part put o) last (Ok z)) e s in
+      far_ends S T l (held ++ sector) out o count at put far (Ok p) _ last w.0 w.1 refl
 
   fails : (f : Fault) → Steps S T (drop at (held ++ sector)) (part put o) last (Err f)
-      → Runs S T (held ++ sector) out (after put o last) (record { characters = count; read = at; written = put; end = Err f })
+      → Runs S T (held ++ sector) out (after put o last)
+      (record { characters = count; read = at; written = put; end = Err f })
   fails f w = far_ends S T l (held ++ sector) out o count at put far (Err f) _ last w.0 w.1 refl
 
 pub run-preserved-then-plain-gt0 : goal.run-preserved-then-plain-gt0
 run-preserved-then-plain-gt0 g c = (
   c.run.invariant.0,
-  plain (g.met.S.CharacterSet.lawful c.args.self.now.source) c.args.held c.args.sector.now c.args.output.now c.run.output c.run.invariant.1 c.plain_at-plain.new.output c.plain_at-plain.result c.plain_at-plain.ensures,
+  plain (g.met.S.CharacterSet.lawful c.args.self.now.source) c.args.held c.args.sector.now
+      c.args.output.now c.run.output c.run.invariant.1 c.plain_at-plain.new.output
+      c.plain_at-plain.result c.plain_at-plain.ensures,
 )
 
 pub run-preserved : goal.run-preserved
@@ -51,7 +69,9 @@ run-preserved g c =
     let l = g.met.S.CharacterSet.lawful c.args.self.now.source in (
       c.in-Ok-Written.ensures.right,
       more l c.args.held c.args.sector.now c.args.output.now _ c.one_at.new.output
-          (still l c.args.held c.args.sector.now c.args.output.now c.run.output c.run.invariant.1 c.plain_at-plain.new.output c.plain_at-plain.result c.if-plain-gt0.false c.plain_at-plain.ensures)
+          (still l c.args.held c.args.sector.now c.args.output.now c.run.output c.run.invariant.1
+          c.plain_at-plain.new.output c.plain_at-plain.result c.if-plain-gt0.false
+          c.plain_at-plain.ensures)
           _ _ c.in-Ok-Written.field-0-is c.in-Ok-Written.ensures.steps,
     )
 
@@ -59,12 +79,16 @@ pub returns-in-Ok-Paused-clause-runs : goal.returns-in-Ok-Paused-clause-runs
 returns-in-Ok-Paused-clause-runs g c =
     let l = g.met.S.CharacterSet.lawful c.args.self.now.source in
     ends l c.args.held c.args.sector.now c.args.output.now _ c.one_at.new.output
-    (still l c.args.held c.args.sector.now c.args.output.now c.run.output c.run.invariant.1 c.plain_at-plain.new.output c.plain_at-plain.result c.if-plain-gt0.false c.plain_at-plain.ensures)
+    (still l c.args.held c.args.sector.now c.args.output.now c.run.output c.run.invariant.1
+    c.plain_at-plain.new.output c.plain_at-plain.result c.if-plain-gt0.false
+    c.plain_at-plain.ensures)
     _ c.in-Ok-Paused.field-0-is c.in-Ok-Paused.ensures.steps
 
 pub returns-in-Err-clause-runs : goal.returns-in-Err-clause-runs
 returns-in-Err-clause-runs g c =
     let l = g.met.S.CharacterSet.lawful c.args.self.now.source in
     fails l c.args.held c.args.sector.now c.args.output.now _ c.one_at.new.output
-    (still l c.args.held c.args.sector.now c.args.output.now c.run.output c.run.invariant.1 c.plain_at-plain.new.output c.plain_at-plain.result c.if-plain-gt0.false c.plain_at-plain.ensures)
+    (still l c.args.held c.args.sector.now c.args.output.now c.run.output c.run.invariant.1
+    c.plain_at-plain.new.output c.plain_at-plain.result c.if-plain-gt0.false
+    c.plain_at-plain.ensures)
     c.in-Err.fault c.in-Err.ensures.steps

@@ -9,5 +9,11 @@ returns-clause-roll c =
     let p = packed-pages_in b.entries.items b.bytes.items c.self.invariant.sized in
     let total : c.len-total.result ≡ length b.bytes.items = search rules in
     let count : c.len.result ≡ length b.entries.items = search rules in
-    rw (c.in_ok-write_trailer.ensures, c.in_ok-write_index.ensures, c.deref.ensures.value, total, count)
+    rw (
+      c.in_ok-write_trailer.ensures,
+      c.in_ok-write_index.ensures,
+      c.deref.ensures.value,
+      total,
+      count,
+    )
     (sym p ∙ ap packed c.self.view_is)

@@ -7,9 +7,13 @@ use Rattle.packing.proofs.builder.Builder.with_page.Goals as goal
 pub invariant_of-result : goal.invariant_of-result
 invariant_of-result c =
     let b = c.self.inside in
-    let count : length c.args.self ≡ length b.entries.items = ap length (sym c.self.view_is) ∙ length-pages_in b.entries.items b.bytes.items in
-    let size : bytes_of c.args.self ≡ b.bytes.items = ap bytes_of (sym c.self.view_is) ∙ bytes_of-pages_in b.entries.items b.bytes.items c.self.invariant.sized in
-    let pushed : c.push.new.self.items ≡ b.entries.items ++ record { form = c.args.form; size = length c.args.page.now } ∷ [] = search rules in
+    let count : length c.args.self ≡ length b.entries.items =
+    ap length (sym c.self.view_is) ∙ length-pages_in b.entries.items b.bytes.items in
+    let size : bytes_of c.args.self ≡ b.bytes.items =
+    ap bytes_of (sym c.self.view_is) ∙ bytes_of-pages_in b.entries.items b.bytes.items
+    c.self.invariant.sized in
+    let pushed : c.push.new.self.items ≡ b.entries.items
+    ++ record { form = c.args.form; size = length c.args.page.now } ∷ [] = search rules in
     rw (pushed, c.in_ok-extend_from_slice.ensures.items) (record {
       few = grind (arith, common_steps);
       sized = grind (arith, common_steps);

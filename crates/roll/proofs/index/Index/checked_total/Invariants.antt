@@ -4,4 +4,5 @@ use Rattle.roll.proofs.Chain.{HoldBelow}
 use Rattle.roll.proofs.index.Index.checked_total.Given as goal
 
 abbrev pub invariant-loop-place : goal.invariant-loop-place
-invariant-loop-place l = (l.end ≡ starts l.self.bytes.now l.place) × HoldBelow l.self.bytes.now l.place
+invariant-loop-place l =
+    (l.end ≡ starts l.self.bytes.now l.place) × HoldBelow l.self.bytes.now l.place

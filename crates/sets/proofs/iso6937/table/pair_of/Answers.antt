@@ -8,4 +8,7 @@ use Rattle.sets.proofs.iso6937.table.pair_of.Goals as goal
 
 pub returns : goal.returns
 unfolding diacritics
-returns c = first_answer _ (λ (d : Diacritic). option_map (λ letter. (d.mark, letter)) (letter_of c.args.character d.letters.now)) (λ o. o) refl (λ y. refl) (λ x o q m. search rules) c.find_map.result _ c.iter.ensures.rest c.iter.ensures.runs c.find_map.ensures.runs
+returns c =
+    first_answer _ (λ (d : Diacritic). option_map (λ letter. (d.mark, letter))
+    (letter_of c.args.character d.letters.now)) (λ o. o) refl (λ y. refl) (λ x o q m. search rules)
+    c.find_map.result _ c.iter.ensures.rest c.iter.ensures.runs c.find_map.ensures.runs

@@ -8,14 +8,18 @@ settle-requires g c =
     let m = c.args.self.now in
     let s = g.S.CharacterSet in let x = m.converter.sets.source in
     let t = g.T.CharacterSet in let y = m.converter.sets.target in
-    possible (set_of s x) (set_of t y) (g.met.S.CharacterSet.lawful x) (g.met.T.CharacterSet.lawful y)
-    (snapshot m.progress) c.args.sector.now c.args.output.now c.convert-run.new.output c.convert-run.result c.convert-run.ensures.runs c.in_ok-within_limits.ensures
+    possible (set_of s x) (set_of t y) (g.met.S.CharacterSet.lawful x)
+    (g.met.T.CharacterSet.lawful y)
+    (snapshot m.progress) c.args.sector.now c.args.output.now c.convert-run.new.output
+    c.convert-run.result c.convert-run.ensures.runs c.in_ok-within_limits.ensures
 
 pub returns-clause-told : goal.returns-clause-told
 returns-clause-told g c =
     let m = c.args.self.now in
     let s = g.S.CharacterSet in let x = m.converter.sets.source in
     let t = g.T.CharacterSet in let y = m.converter.sets.target in
-    offered_open (set_of s x) (set_of t y) (g.met.S.CharacterSet.lawful x) (g.met.T.CharacterSet.lawful y)
-    (snapshot m.progress) c.args.sector.now c.args.output.now c.convert-run.new.output c.convert-run.result c.convert-run.ensures.runs c.in_ok-within_limits.ensures
+    offered_open (set_of s x) (set_of t y) (g.met.S.CharacterSet.lawful x)
+    (g.met.T.CharacterSet.lawful y)
+    (snapshot m.progress) c.args.sector.now c.args.output.now c.convert-run.new.output
+    c.convert-run.result c.convert-run.ensures.runs c.in_ok-within_limits.ensures
     c.settle.result (snapshot c.settle.new.self) c.settle.ensures
