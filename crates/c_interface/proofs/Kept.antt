@@ -6,9 +6,9 @@ use Rattle.std.specs.Option.{MatchOption}
 use Rattle.std.proofs.Math.Seq.{take-append_seam}
 use Rattle.std.proofs.Math.Nat.{min-eq_left}
 use Rattle.charset.specs.Padding.{padded}
-use Rattle.answers.specs.declared.Status.{Status}
-use Rattle.pages.specs.declared.page.Form.{Form}
-use Rattle.pages.specs.Forms.{form_number}
+use Rattle.transcript.specs.declared.answers.Status.{Status}
+use Rattle.roll.specs.declared.page.Form.{Form}
+use Rattle.roll.specs.Forms.{form_number}
 use Rattle.transcript.specs.Calls.{Snapshot, status_of}
 use Rattle.transcript.specs.Snapshots.{snapshot, Counts, told_with}
 use Rattle.transcript.specs.declared.progress.Progress.{Progress}

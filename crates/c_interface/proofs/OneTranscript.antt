@@ -4,15 +4,15 @@ use Rattle.std.proofs.Common.{◌≡◌, ℕ, ◌-◌, length, take, replicate, 
 use Rattle.std.proofs.Math.Seq.{take-append_seam}
 use Rattle.conversion.specs.declared.Fault.{Fault}
 use Rattle.conversion.specs.declared.Fault.TheVariants.{Unread, Unwritten, Unfinished}
-use Rattle.answers.specs.declared.Done.{Done}
-use Rattle.answers.specs.declared.FaultAt.{FaultAt}
-use Rattle.answers.specs.declared.State.{State}
-use Rattle.answers.specs.declared.State.TheVariants.{Open, Faulted, Closed}
-use Rattle.answers.specs.declared.Told.{Told}
-use Rattle.pages.specs.declared.page.Form.{Form}
-use Rattle.pages.specs.declared.page.Form.TheVariants.{EightBit, SevenBit, SevenBitParity, Latin10}
-use Rattle.pages.specs.declared.page.Form.TheVariants.{Sami, Unicode, Basic}
-use Rattle.pages.specs.Forms.{form_number}
+use Rattle.transcript.specs.declared.answers.Done.{Done}
+use Rattle.transcript.specs.declared.answers.FaultAt.{FaultAt}
+use Rattle.transcript.specs.declared.answers.State.{State}
+use Rattle.transcript.specs.declared.answers.State.TheVariants.{Open, Faulted, Closed}
+use Rattle.transcript.specs.declared.answers.Told.{Told}
+use Rattle.roll.specs.declared.page.Form.{Form}
+use Rattle.roll.specs.declared.page.Form.TheVariants.{EightBit, SevenBit, SevenBitParity, Latin10}
+use Rattle.roll.specs.declared.page.Form.TheVariants.{Sami, Unicode, Basic}
+use Rattle.roll.specs.Forms.{form_number}
 use Rattle.transcript.specs.Calls.{Snapshot}
 use Rattle.c_interface.specs.declared.record.TranscriptRecord.{TranscriptRecord}
 use Rattle.c_interface.specs.Records.{fault_told, state_number, standing, Keeps, OneTranscript}

@@ -1,13 +1,13 @@
 -- What each call of a C client does to the record, and what it answers.
 use Rattle.std.specs.Prelude.{◌≡◌, ℕ, ◌⊎◌, Bool, true, false, List, Ok, Err, Result, ◌≢◌}
-use Rattle.answers.specs.declared.Done.{Done}
-use Rattle.answers.specs.declared.Refusal.{Refusal}
-use Rattle.answers.specs.declared.Told.{Told}
-use Rattle.answers.specs.Told.{with_done}
-use Rattle.pages.specs.declared.page.Form.{Form}
-use Rattle.pages.specs.declared.page.Form.TheVariants.{Basic}
-use Rattle.pages.specs.Forms.{form_number}
-use Rattle.form_sets.specs.Forms.{form_set}
+use Rattle.transcript.specs.declared.answers.Done.{Done}
+use Rattle.transcript.specs.declared.answers.Refusal.{Refusal}
+use Rattle.transcript.specs.declared.answers.Told.{Told}
+use Rattle.transcript.specs.Told.{with_done}
+use Rattle.roll.specs.declared.page.Form.{Form}
+use Rattle.roll.specs.declared.page.Form.TheVariants.{Basic}
+use Rattle.roll.specs.Forms.{form_number}
+use Rattle.forms.specs.FormSets.{form_set}
 use Rattle.transcript.specs.Calls.{Snapshot, fresh, done, status_of}
 use Rattle.transcript.specs.Uses.{Event, start, offer, close, Step}
 use Rattle.c_interface.specs.declared.record.StatusRecord.{StatusRecord}
@@ -16,7 +16,7 @@ use Rattle.c_interface.specs.declared.refusal.CallRefusal.{CallRefusal}
 use Rattle.c_interface.specs.declared.refusal.CallRefusal.TheVariants.{NoMemory, UnknownForm}
 use Rattle.c_interface.specs.declared.refusal.CallRefusal.TheVariants.{NoTranscript as NotOne}
 use Rattle.c_interface.specs.declared.refusal.CallRefusal.TheVariants.{Refused}
-use Rattle.c_interface.specs.Refusals.{told}
+use Rattle.c_interface.specs.Refusals.{call_told}
 use Rattle.c_interface.specs.Records.{status_record, Keeps, NoTranscript}
 
 -- ---- the answer
@@ -24,7 +24,7 @@ use Rattle.c_interface.specs.Records.{status_record, Keeps, NoTranscript}
 -- true and what an offer did, or false and why the call does not succeed
 abbrev pub Answers : Result Done CallRefusal → Told → Bool → Type 0
 Answers (Ok d) answer succeeds = (answer ≡ with_done 0 d) × (succeeds ≡ true)
-Answers (Err q) answer succeeds = (answer ≡ told q) × (succeeds ≡ false)
+Answers (Err q) answer succeeds = (answer ≡ call_told q) × (succeeds ≡ false)
 
 -- a call that is no offer did nothing with buffers
 abbrev pub with_nothing : Result (Unit {0}) CallRefusal → Result Done CallRefusal
@@ -34,7 +34,7 @@ with_nothing (Err q) = Err q
 -- ---- the record
 
 -- the transcript that the record keeps makes a step, and the record keeps what it has come to
-pub record Steps (old new : TranscriptRecord) (e : Event) : Type 0 where
+pub record RecordSteps (old new : TranscriptRecord) (e : Event) : Type 0 where
   pub source : Form
   pub target : Form
   pub before : Snapshot
@@ -54,8 +54,8 @@ pub record HasList (r : TranscriptRecord) : Type 0 where
 -- a step, by the event of each answer of the transcript; or else nothing changes
 abbrev pub Makes : {A : Type 0} → (old new : TranscriptRecord) → (Result A Refusal → Event)
     → (unchanged : Type 0) → Result A CallRefusal → Type 0
-Makes old new event unchanged (Ok a) = Steps old new (event (Ok a))
-Makes old new event unchanged (Err (Refused q)) = Steps old new (event (Err q))
+Makes old new event unchanged (Ok a) = RecordSteps old new (event (Ok a))
+Makes old new event unchanged (Err (Refused q)) = RecordSteps old new (event (Err q))
 Makes old new event unchanged (Err NotOne) = NoTranscript old × (new ≡ old) × unchanged
 Makes old new event unchanged (Err NoMemory) = HasList old × (new ≡ old) × unchanged
 Makes old new event unchanged (Err UnknownForm) = ⊥
@@ -80,7 +80,7 @@ Closes old new r = Makes old new close (Unit {0}) r
 
 -- starting again needs no set
 abbrev pub Starts : (old new : TranscriptRecord) → Result (Unit {0}) CallRefusal → Type 0
-Starts old new (Ok u) = Steps old new start
+Starts old new (Ok u) = RecordSteps old new start
 Starts old new (Err NotOne) = NoTranscript old × (new ≡ old)
 Starts old new (Err NoMemory) = ⊥
 Starts old new (Err UnknownForm) = ⊥

@@ -1,15 +1,15 @@
 -- A transcript between two forms of text, as numbers.
 use Rattle.std.specs.Prelude.{◌≡◌, ℕ, ◌≤◌, length, ◌≢◌}
 use Rattle.charset.specs.Padding.{padded}
-use Rattle.answers.specs.declared.Done.{Done}
-use Rattle.answers.specs.declared.FaultAt.{FaultAt}
-use Rattle.answers.specs.declared.State.{State}
-use Rattle.answers.specs.declared.State.TheVariants.{Open, Faulted, Closed}
-use Rattle.answers.specs.declared.Status.{Status}
-use Rattle.answers.specs.declared.Told.{Told}
-use Rattle.answers.specs.Told.{alone, with_fault, fault_number}
-use Rattle.pages.specs.declared.page.Form.{Form}
-use Rattle.pages.specs.Forms.{form_number}
+use Rattle.transcript.specs.declared.answers.Done.{Done}
+use Rattle.transcript.specs.declared.answers.FaultAt.{FaultAt}
+use Rattle.transcript.specs.declared.answers.State.{State}
+use Rattle.transcript.specs.declared.answers.State.TheVariants.{Open, Faulted, Closed}
+use Rattle.transcript.specs.declared.answers.Status.{Status}
+use Rattle.transcript.specs.declared.answers.Told.{Told}
+use Rattle.transcript.specs.Told.{alone, with_fault, fault_number}
+use Rattle.roll.specs.declared.page.Form.{Form}
+use Rattle.roll.specs.Forms.{form_number}
 use Rattle.transcript.specs.Calls.{Snapshot, status_of}
 use Rattle.transcript.specs.Snapshots.{Counts}
 use Rattle.c_interface.specs.declared.record.StatusRecord.{StatusRecord}

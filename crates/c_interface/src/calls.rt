@@ -1,17 +1,16 @@
 // The calls on a record.
 ghost use Rattle.std.specs.Prelude.{◌≡◌, ◌≢◌, MatchResult};
-ghost use Rattle.pages.specs.declared.page.Form.{Form as ItsForm};
-ghost use Rattle.pages.specs.Forms.{form_number};
+ghost use Rattle.roll.specs.declared.page.Form.{Form as ItsForm};
+ghost use Rattle.roll.specs.Forms.{form_number};
 ghost use Rattle.c_interface.specs.declared.refusal.CallRefusal.TheVariants.{UnknownForm};
 ghost use Rattle.c_interface.specs.Calls.{Opens, Starts, Offers, Closes, Tells};
 
 use crate::form_transcript::FormTranscript;
 use crate::record::{StatusRecord, TranscriptRecord};
 use crate::refusal::CallRefusal;
-use answers::Done;
-use pages::Form;
+use roll::Form;
 use std::alloc::Global;
-use transcript::Progress;
+use transcript::{Done, Progress};
 
 // The form with that number.
 fn form_of(number: u32) -> Result<Form, CallRefusal>

@@ -3,7 +3,7 @@ use crate::{
     StatusRecord, TranscriptRecord, finetalc_close, finetalc_offer, finetalc_open, finetalc_start,
     finetalc_status,
 };
-use answers::Told;
+use transcript::Told;
 use std::test::*;
 
 const ISO6937: u32 = 1;

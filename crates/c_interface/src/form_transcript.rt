@@ -1,16 +1,16 @@
 // A transcript between two forms of text, without its sets: what a record keeps.
 ghost use Rattle.std.specs.Prelude.{◌≡◌, ◌⊎◌, MatchOption, MatchResult};
 ghost use Rattle.charset.specs.Padding.{padded};
-ghost use Rattle.pages.specs.declared.page.Form.TheVariants.{Basic};
-ghost use Rattle.form_sets.specs.Forms.{form_set};
-ghost use Rattle.form_sets.specs.Chosen.{meaning_of};
+ghost use Rattle.roll.specs.declared.page.Form.TheVariants.{Basic};
+ghost use Rattle.forms.specs.FormSets.{form_set};
+ghost use Rattle.forms.specs.Chosen.{meaning_of};
 ghost use Rattle.transcript.specs.Snapshots.{snapshot};
 ghost use Rattle.c_interface.specs.Records.{Keeps, NoTranscript};
 
 use crate::record::{StatusRecord, TranscriptRecord};
 use charset::Front;
-use form_sets::FormSet;
-use pages::Form;
+use forms::FormSet;
+use roll::Form;
 use std::alloc::{AllocError, Global};
 use transcript::{Progress, Transcript};
 

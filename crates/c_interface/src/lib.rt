@@ -4,8 +4,8 @@
 #![tactic(auto)]
 
 ghost use Rattle.std.specs.Prelude.{◌≡◌, Result};
-ghost use Rattle.answers.specs.declared.Done.{Done as ItsDone};
-ghost use Rattle.law.specs.Stacks.{TheLaw};
+ghost use Rattle.transcript.specs.declared.answers.Done.{Done as ItsDone};
+ghost use Rattle.transcript.specs.Stacks.{TheLaw};
 ghost use Rattle.c_interface.specs.declared.refusal.CallRefusal.{CallRefusal as ItsRefusal};
 ghost use Rattle.c_interface.specs.declared.record.TranscriptRecord.{TranscriptRecord as ItsRecord};
 ghost use Rattle.c_interface.specs.Records.{OneTranscript};
@@ -18,9 +18,9 @@ mod form_transcript;
 mod record;
 mod refusal;
 
-use answers::{Done, Told};
 pub use record::{StatusRecord, TranscriptRecord};
 use refusal::CallRefusal;
+use transcript::{Done, Told};
 use std::alloc::Global;
 
 // Answers a call.
@@ -76,7 +76,7 @@ pub extern "C" fn finetalc_start(transcript: &mut TranscriptRecord, answer: &mut
 // Reads the held bytes and then the sector from the front, and writes each character behind the one
 // before.
 #[unsafe(no_mangle)]
-#[tactic(auto, using(law::proofs::Whole::the_law))]
+#[tactic(auto, using(crate::proofs::Whole::the_law))]
 pub extern "C" fn finetalc_offer(
     heap: Global,
     transcript: &mut TranscriptRecord,

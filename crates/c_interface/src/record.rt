@@ -3,9 +3,9 @@ ghost use Rattle.std.specs.Prelude.{◌≡◌, MatchOption};
 ghost use Rattle.c_interface.specs.Records.{fault_told, standing, state_number, status_record};
 ghost use Rattle.c_interface.specs.Records.{NoFault, NoState, NoStatus};
 
-use answers::{Done, FaultAt, State, Status, Told};
 use charset::SetRefusal;
 use conversion::Fault;
+use transcript::{Done, FaultAt, State, Status, Told};
 
 // `finetalc_progress`: what a transcript has come to since it was started.
 #[repr(C)]

@@ -1,13 +1,12 @@
 // Why a call of a C client does not succeed.
 ghost use Rattle.std.specs.Prelude.{◌≡◌};
-ghost use Rattle.answers.specs.Told.{alone};
+ghost use Rattle.transcript.specs.Told.{alone};
 ghost use Rattle.c_interface.specs.declared.refusal.CallRefusal.TheVariants.{NoMemory};
 ghost use Rattle.c_interface.specs.declared.refusal.CallRefusal.TheVariants.{UnknownForm as UnknownFormNumber};
 ghost use Rattle.c_interface.specs.declared.refusal.CallRefusal.TheVariants.{Refused};
-ghost use Rattle.c_interface.specs.Refusals.{told};
+ghost use Rattle.c_interface.specs.Refusals.{call_told};
 
-use answers::{Refusal, Told};
-use pages::UnknownForm;
+use roll::UnknownForm;
 use std::alloc::AllocError;
 use std::num::TryFromIntError;
 
@@ -26,7 +25,7 @@ pub enum CallRefusal {
 impl CallRefusal {
     // The refusal by its number and values.
     pub fn told(&self) -> Told
-        ensures { result ≡ told self.now }
+        ensures { result ≡ call_told self.now }
     {
         let number = match self {
             CallRefusal::NoMemory => 0,

@@ -10,8 +10,8 @@ use Rattle.std.proofs.lemmas.Option.{none-some}
 use Rattle.std.proofs.lemmas.List.{take_min as take_least}
 use Rattle.std.proofs.lemmas.Bool.{cases_lt, cases_order, both_ways, false_from_ne_true}
 use Rattle.charset.specs.declared.Reading.TheVariants.{Found, Open}
-use Rattle.charset.specs.Meaning.{Meaning, Codes, Opens, NoFront, Unreadable, Laws}
-use Rattle.charset.specs.Answers.{Answer, Reads, found, unread, look, reading, OnlyAnswer}
+use Rattle.charset.specs.Meaning.{Meaning, Codes, IsOpening, NoFront, Unreadable, Laws}
+use Rattle.charset.specs.Answers.{ReadAnswer, Reads, found, unread, look, reading, OnlyAnswer}
 use Rattle.charset.specs.Answers.{FourBytesDecide}
 
 -- an option of no value
@@ -32,7 +32,7 @@ take_all_of j n s h = take_all j (take n s) (rw (length-take n s) (omega arith))
 -- where proper beginnings of codings are openings, and openings begin with no coding, no coding
 -- begins another
 pub alone : (m : Meaning) → ((s : List ℕ) (c n : ℕ) → Codes m s c → n < length s
-    → Opens m (take n s)) → ((s : List ℕ) → Opens m s → NoFront m s)
+    → IsOpening m (take n s)) → ((s : List ℕ) → IsOpening m s → NoFront m s)
     → (s : List ℕ) (c d n : ℕ) → Codes m s c → Codes m (take n s) d → take n s ≡ s
 alone m begins bare s c d n h k = elim (cases_lt n (length s)) [
   | inl g ↦ absurd (bare (take n s) (begins s c n h g) n d (rw (take_all_of n n s (omega arith)) k))
@@ -40,12 +40,12 @@ alone m begins bare s c d n h k = elim (cases_lt n (length s)) [
 ]
 
 -- openings that begin with openings, none of them a coding, begin with no coding
-pub no_front_by : (m : Meaning) → ((s : List ℕ) (n : ℕ) → Opens m s → Opens m (take n s))
-    → ((s : List ℕ) (c : ℕ) → Opens m s → Codes m s c → ⊥) → (s : List ℕ) → Opens m s → NoFront m s
+pub no_front_by : (m : Meaning) → ((s : List ℕ) (n : ℕ) → IsOpening m s → IsOpening m (take n s))
+    → ((s : List ℕ) (c : ℕ) → IsOpening m s → Codes m s c → ⊥) → (s : List ℕ) → IsOpening m s → NoFront m s
 no_front_by m begins bare s o n c p = bare (take n s) c (begins s n o) p
 
 module _ {m : Meaning} (l : Laws m) where
-  bare : (s : List ℕ) (c : ℕ) → Codes m s c → Opens m s → ⊥
+  bare : (s : List ℕ) (c : ℕ) → Codes m s c → IsOpening m s → ⊥
   bare s c p o = l.opening_bare s o (length s) c (rw (take_all (length s) s (omega arith)) p)
 
   not_before : (s : List ℕ) (i j c d : ℕ) → j ≤ length s → i < j → Codes m (take i s) c
@@ -104,7 +104,7 @@ module _ {m : Meaning} (l : Laws m) where
       look_reads s 4 1 refl (λ j c h p. omega (arith, l.sized (take j s) c p, length-take j s))
 
   -- and nothing else
-  pub one_reading : (s : List ℕ) (r t : Answer) → Reads m s r → Reads m s t → r ≡ t
+  pub one_reading : (s : List ℕ) (r t : ReadAnswer) → Reads m s r → Reads m s t → r ≡ t
   one_reading s (Ok (Found c n)) (Ok (Found d k)) p q =
       let e = same_size s n k c d p.0 q.0 p.1 q.1 in
       let p' : m.codings.character (take k s) ≡ Some c = rw e at p.1 in
@@ -119,7 +119,7 @@ module _ {m : Meaning} (l : Laws m) where
   one_reading s (Err x) (Ok Open) p q = absurd (both_ways _ p.0.1 q)
   one_reading s (Err x) (Err y) p q = ap Err (p.1 ∙ sym q.1)
 
-  pub reading_is : (s : List ℕ) (r : Answer) → Reads m s r → reading m s ≡ r
+  pub reading_is : (s : List ℕ) (r : ReadAnswer) → Reads m s r → reading m s ≡ r
   reading_is s r h = one_reading s (reading m s) r (reading_reads s) h
 
   no_front_begins : (s : List ℕ) (n : ℕ) → NoFront m s → NoFront m (take n s)
@@ -129,7 +129,7 @@ module _ {m : Meaning} (l : Laws m) where
   pub reading_four : (s : List ℕ) (n : ℕ) → 4 ≤ n → reading m (take n s) ≡ reading m s
   reading_four s n four = reading_is (take n s) (reading m s) (go (reading m s) (reading_reads s))
     where
-      go : (r : Answer) → Reads m s r → Reads m (take n s) r
+      go : (r : ReadAnswer) → Reads m s r → Reads m (take n s) r
       go (Ok (Found c k)) h =
           let small : k ≤ 4 = omega (arith, l.sized (take k s) c h.1, length-take-le k s h.0) in
           (rw (length-take n s) (omega (arith, h.0)), rw (take-take k n s (omega arith)) h.1)
@@ -146,7 +146,7 @@ module _ {m : Meaning} (l : Laws m) where
           (bad, h.1 ∙ l.cause_stays s n bad)
 
   -- a coding in front of an opening and more is longer than the opening
-  pub opening_passed : (held more : List ℕ) (c n : ℕ) → Opens m held
+  pub opening_passed : (held more : List ℕ) (c n : ℕ) → IsOpening m held
       → Codes m (take n (held ++ more)) c → length held < n
   opening_passed held more c n o p = elim (cases_lt (length held) n) [
     | inl h ↦ h
@@ -166,7 +166,7 @@ module _ {m : Meaning} (l : Laws m) where
       ]
 
   -- an answer other than "more is needed" stays whatever follows
-  pub answer_grows : (s : List ℕ) (n : ℕ) (r : Answer) → (r ≡ Ok Open → ⊥) → Reads m (take n s) r
+  pub answer_grows : (s : List ℕ) (n : ℕ) (r : ReadAnswer) → (r ≡ Ok Open → ⊥) → Reads m (take n s) r
       → Reads m s r
   answer_grows s n (Ok (Found c k)) d h =
       let k_fits : k ≤ min n (length s) = rw (← length-take n s) h.0 in
@@ -174,24 +174,24 @@ module _ {m : Meaning} (l : Laws m) where
   answer_grows s n (Ok Open) d h = absurd (d refl)
   answer_grows s n (Err q) d h = (bad_grows s n h.0, h.1 ∙ sym (l.cause_stays s n h.0))
 
-  pub reads_on : (s more : List ℕ) (r : Answer) → (r ≡ Ok Open → ⊥) → Reads m s r
+  pub reads_on : (s more : List ℕ) (r : ReadAnswer) → (r ≡ Ok Open → ⊥) → Reads m s r
       → Reads m (s ++ more) r
   reads_on s more r d h = answer_grows (s ++ more) (length s) r d (rw (take-append_seam s more) h)
 
   pub reading_bad : (s : List ℕ) → Unreadable m s → reading m s ≡ Err (m.causes s)
   reading_bad s h = reading_is s (Err (m.causes s)) (h, refl)
 
-  pub only_answer : (s : List ℕ) (r : Answer) → Reads m s r → OnlyAnswer m s r
+  pub only_answer : (s : List ℕ) (r : ReadAnswer) → Reads m s r → OnlyAnswer m s r
   only_answer s r h a k = one_reading s a r k h
 
-  pub four_bytes_decide : (s : List ℕ) (r : Answer) → Reads m s r → FourBytesDecide m s r
+  pub four_bytes_decide : (s : List ℕ) (r : ReadAnswer) → Reads m s r → FourBytesDecide m s r
   four_bytes_decide s r h t e =
       let same : reading m t ≡ r = sym (reading_four t 4 (omega arith)) ∙ ap (reading m) e
       ∙ reading_four s 4 (omega arith) ∙ reading_is s r h in
       rw (← same) (reading_reads t)
 
   -- after an opening, a byte that makes neither a coding nor an opening leaves nothing to read
-  pub unreadable_here : (s : List ℕ) (n : ℕ) → Opens m (take n s)
+  pub unreadable_here : (s : List ℕ) (n : ℕ) → IsOpening m (take n s)
       → m.codings.character (take (suc n) s) ≡ None → m.openings (take (suc n) s) ≡ false
       → Unreadable m s
   unreadable_here s n o none shut = bad_grows s (suc n) (never, shut)

@@ -3,7 +3,7 @@ use Rattle.std.proofs.Common.{◌≡◌, ℕ, ◌⊎◌, List, [], ◌∷◌, �
 use Rattle.std.proofs.Common.{◌∙◌, inl, inr, append_assoc, append-nil, arith, length-append}
 use mathlib.Core.List.{append_cancel_left}
 use lib.Seq.{take-append_seam}
-use Rattle.charset.specs.Meaning.{Meaning, Codes, Opens, Laws}
+use Rattle.charset.specs.Meaning.{Meaning, Codes, IsOpening, Laws}
 use Rattle.charset.specs.Decoding.{Spells, DecodesOnce}
 use Rattle.charset.proofs.FrontLemmas.{same_size}
 
@@ -73,7 +73,7 @@ module _ {m : Meaning} (l : Laws m) where
       ]
 
   -- an opening has no characters in front
-  nothing_more : (es e cs ds h k : List ℕ) → ds ≡ cs ++ es → Spells m es e → h ≡ e ++ k → Opens m h
+  nothing_more : (es e cs ds h k : List ℕ) → ds ≡ cs ++ es → Spells m es e → h ≡ e ++ k → IsOpening m h
       → (cs ≡ ds) × (h ≡ k)
   nothing_more [] e cs ds h k g p f o = (sym (g ∙ append-nil cs), f ∙ ap (λ t. t ++ k) p)
   nothing_more (c ∷ es) e cs ds h k g p f o =

@@ -4,15 +4,15 @@ use Rattle.std.specs.Prelude.{Option, Result}
 use Rattle.charset.specs.declared.SetRefusal.{SetRefusal}
 use Rattle.charset.specs.declared.Reading.{Reading}
 use Rattle.charset.specs.declared.Reading.TheVariants.{Found, Open}
-use Rattle.charset.specs.Meaning.{Meaning, Codes, Opens, Unreadable}
+use Rattle.charset.specs.Meaning.{Meaning, Codes, IsOpening, Unreadable}
 
-abbrev pub Answer : Type 0
-Answer = Result Reading SetRefusal
+abbrev pub ReadAnswer : Type 0
+ReadAnswer = Result Reading SetRefusal
 
 -- reading s answers the coding in front, else open if s is an opening, else its cause
-abbrev pub Reads : Meaning → List ℕ → Answer → Type 0
+abbrev pub Reads : Meaning → List ℕ → ReadAnswer → Type 0
 Reads m s (Ok (Found c n)) = (n ≤ length s) × Codes m (take n s) c
-Reads m s (Ok Open) = Opens m s
+Reads m s (Ok Open) = IsOpening m s
 Reads m s (Err q) = Unreadable m s × (q ≡ m.causes s)
 
 -- writing c answers its coding, if it has one
@@ -20,27 +20,27 @@ abbrev pub Writes : Meaning → ℕ → Option (List ℕ) → Type 0
 Writes m c r = r ≡ m.codings.string c
 
 -- r, unless a character of length n is found
-abbrev pub found : Option ℕ → ℕ → Answer → Answer
+abbrev pub found : Option ℕ → ℕ → ReadAnswer → ReadAnswer
 found None n r = r
 found (Some c) n r = Ok (Found c n)
 
 -- the answer of a string with no coding in front
-abbrev pub unread : Meaning → List ℕ → Answer
+abbrev pub unread : Meaning → List ℕ → ReadAnswer
 unread m s = cond (m.openings s) (Ok Open) (Err (m.causes s))
 
 -- the same answer by a search: the shortest coding in front of at least n bytes and fewer than n +
 -- k, else what s is
-abbrev pub look : Meaning → List ℕ → ℕ → ℕ → Answer
+abbrev pub look : Meaning → List ℕ → ℕ → ℕ → ReadAnswer
 look m s n zero = unread m s
 look m s n (suc k) = found (m.codings.character (take n s)) n (look m s (suc n) k)
 
-unfoldable pub reading : Meaning → List ℕ → Answer
+unfoldable pub reading : Meaning → List ℕ → ReadAnswer
 reading m s = look m s 1 4
 
 -- reading s has no answer but r
-abbrev pub OnlyAnswer : Meaning → List ℕ → Answer → Type 0
-OnlyAnswer m s r = (a : Answer) → Reads m s a → a ≡ r
+abbrev pub OnlyAnswer : Meaning → List ℕ → ReadAnswer → Type 0
+OnlyAnswer m s r = (a : ReadAnswer) → Reads m s a → a ≡ r
 
 -- r is the answer of every string whose first four bytes are those of s
-abbrev pub FourBytesDecide : Meaning → List ℕ → Answer → Type 0
+abbrev pub FourBytesDecide : Meaning → List ℕ → ReadAnswer → Type 0
 FourBytesDecide m s r = (t : List ℕ) → take 4 t ≡ take 4 s → Reads m t r

@@ -1,8 +1,7 @@
--- Characters in codings, one behind the other, and that they can be read in one way only. Assumes
--- nothing.
+-- Characters in codings, one behind the other, and that they can be read in one way only.
 use Rattle.std.specs.Prelude.{◌≡◌, ℕ, List, [], ◌∷◌, ◌++◌, Some}
-use Rattle.charset.specs.Meaning.{Meaning, Opens}
-use Rattle.charset.specs.Answers.{Answer, Reads, OnlyAnswer, FourBytesDecide}
+use Rattle.charset.specs.Meaning.{Meaning, IsOpening}
+use Rattle.charset.specs.Answers.{ReadAnswer, Reads, OnlyAnswer, FourBytesDecide}
 
 -- s is the characters in the codings of m, one behind the other
 abbrev pub Spells : Meaning → List ℕ → List ℕ → Type 0
@@ -13,7 +12,7 @@ Spells m (c ∷ cs) s = (a b : List ℕ) × (m.codings.string c ≡ Some a) × (
 pub record Decodes (m : Meaning) (s chars opening : List ℕ) : Type 0 where
   pub spelt : List ℕ
   pub spells : Spells m chars spelt
-  pub opens : Opens m opening
+  pub opens : IsOpening m opening
   pub parts : s ≡ spelt ++ opening
 
 -- no string is characters in codings and then an opening in two ways
@@ -21,7 +20,7 @@ abbrev pub DecodesOnce : Meaning → Type 0
 DecodesOnce m = (s cs ds h k : List ℕ) → Decodes m s cs h → Decodes m s ds k → (cs ≡ ds) × (h ≡ k)
 
 -- what the laws say of r, the answer to reading s
-pub record ReadByLaws (m : Meaning) (s : List ℕ) (r : Answer) : Type 0 where
+pub record ReadByLaws (m : Meaning) (s : List ℕ) (r : ReadAnswer) : Type 0 where
   pub reads : Reads m s r
   pub only_answer : OnlyAnswer m s r
   pub four_bytes_decide : FourBytesDecide m s r

@@ -25,8 +25,8 @@ abbrev pub Codes : Meaning → List ℕ → ℕ → Type 0
 Codes m s c = m.codings.character s ≡ Some c
 
 -- s is an opening
-abbrev pub Opens : Meaning → List ℕ → Type 0
-Opens m s = m.openings s ≡ true
+abbrev pub IsOpening : Meaning → List ℕ → Type 0
+IsOpening m s = m.openings s ≡ true
 
 -- no beginning of s is a coding
 abbrev pub NoFront : Meaning → List ℕ → Type 0
@@ -45,16 +45,16 @@ pub record Laws (m : Meaning) : Type 0 where
   pub bytes : (s : List ℕ) (c : ℕ) → Codes m s c → AllByRecursion (λ b. b < 256) s
   pub characters : (s : List ℕ) (c : ℕ) → Codes m s c → c ≤ 0x10ffff
   -- an opening has at most three bytes, and the empty string is one
-  pub empty_opens : Opens m []
-  pub opening_sized : (s : List ℕ) → Opens m s → length s ≤ 3
-  pub opening_bytes : (s : List ℕ) → Opens m s → AllByRecursion (λ b. b < 256) s
+  pub empty_opens : IsOpening m []
+  pub opening_sized : (s : List ℕ) → IsOpening m s → length s ≤ 3
+  pub opening_bytes : (s : List ℕ) → IsOpening m s → AllByRecursion (λ b. b < 256) s
   -- no coding is the beginning of a different coding
   pub coding_alone : (s : List ℕ) (c d n : ℕ) → Codes m s c → Codes m (take n s) d → take n s ≡ s
   -- every proper beginning of a coding is an opening, and so is every beginning of an opening
-  pub coding_begins : (s : List ℕ) (c n : ℕ) → Codes m s c → n < length s → Opens m (take n s)
-  pub opening_begins : (s : List ℕ) (n : ℕ) → Opens m s → Opens m (take n s)
+  pub coding_begins : (s : List ℕ) (c n : ℕ) → Codes m s c → n < length s → IsOpening m (take n s)
+  pub opening_begins : (s : List ℕ) (n : ℕ) → IsOpening m s → IsOpening m (take n s)
   -- no opening begins with a coding
-  pub opening_bare : (s : List ℕ) → Opens m s → NoFront m s
+  pub opening_bare : (s : List ℕ) → IsOpening m s → NoFront m s
   -- a cause is two bytes, and a string has the cause of its shortest beginning that has one
   pub cause_sized : (s : List ℕ) → Unreadable m s
       → ((m.causes s).cause < 256) × ((m.causes s).depth < 256)

@@ -1,6 +1,6 @@
 // A coding is a byte string of one to four bytes.
 ghost use Rattle.std.specs.Prelude.{◌≡◌, ◌<◌, ◌≤◌, [], ◌∷◌, length};
-ghost use Rattle.charset.specs.Strings.{joined, unless_empty};
+ghost use Rattle.charset.specs.Strings.{with_byte, unless_empty};
 
 use crate::front::Front;
 use std::marker::Model;
@@ -46,7 +46,7 @@ impl Coding {
 
     // The coding with one more byte behind; none if it has four already.
     pub fn then(self, byte: u8) -> Option<Coding>
-        ensures { result ≡ joined self byte }
+        ensures { result ≡ with_byte self byte }
     {
         let front = self.front.then(byte)?;
         Some(Coding { front })

@@ -1,6 +1,6 @@
 // The first bytes of a string, up to four: as many as decide what stands in front of it.
 ghost use Rattle.std.specs.Prelude.{◌≡◌, ◌≤◌, [], ◌∷◌, ◌++◌, length, take, drop};
-ghost use Rattle.charset.specs.Strings.{joined};
+ghost use Rattle.charset.specs.Strings.{with_byte};
 
 use std::marker::Model;
 
@@ -58,7 +58,7 @@ impl Front {
 
     // With one more byte behind; none if it has four already.
     pub fn then(self, byte: u8) -> Option<Front>
-        ensures { result ≡ joined self byte }
+        ensures { result ≡ with_byte self byte }
     {
         if self.len >= 4 {
             return None;

@@ -1,5 +1,4 @@
--- The sets by the names that vectors use, and the known differences as they are printed. Assumes
--- nothing.
+-- The sets by the names that vectors use, and the known differences as they are printed.
 use Rattle.std.specs.Prelude.{◌≡◌, ℕ, List, Ok, Err, codes, Result}
 use Rattle.conformance.specs.declared.known.Known.{Known}
 use Rattle.conformance.specs.declared.known.Known.TheVariants as known

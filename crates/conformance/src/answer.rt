@@ -7,7 +7,7 @@ use charset::{Coding, Reading, SetRefusal};
 use std::fmt;
 
 #[derive(Clone, Copy, PartialEq, Eq)]
-pub enum Answer {
+pub enum ConverterAnswer {
     // A character's coding of so many bytes stands in front.
     Character(u32, usize),
     Open,
@@ -19,28 +19,28 @@ pub enum Answer {
     NoCoding,
 }
 
-impl From<Result<Reading, SetRefusal>> for Answer {
+impl From<Result<Reading, SetRefusal>> for ConverterAnswer {
     ghost from_gives = { λ reading answer. answer ≡ told_reading reading };
 
-    fn from(reading: Result<Reading, SetRefusal>) -> Answer {
+    fn from(reading: Result<Reading, SetRefusal>) -> ConverterAnswer {
         match reading {
-            Ok(Reading::Found { character, length }) => Answer::Character(character, length),
-            Ok(Reading::Open) => Answer::Open,
-            Err(refusal) => Answer::Refused(refusal.cause),
+            Ok(Reading::Found { character, length }) => ConverterAnswer::Character(character, length),
+            Ok(Reading::Open) => ConverterAnswer::Open,
+            Err(refusal) => ConverterAnswer::Refused(refusal.cause),
         }
     }
 }
 
-impl From<Option<Coding>> for Answer {
+impl From<Option<Coding>> for ConverterAnswer {
     ghost from_gives = { λ coding answer. answer ≡ told_coding coding };
 
-    fn from(coding: Option<Coding>) -> Answer {
+    fn from(coding: Option<Coding>) -> ConverterAnswer {
         match coding {
             Some(coding) => {
                 let bytes = coding.as_bytes();
-                Answer::Bytes(number_of(bytes), bytes.len())
+                ConverterAnswer::Bytes(number_of(bytes), bytes.len())
             }
-            None => Answer::NoCoding,
+            None => ConverterAnswer::NoCoding,
         }
     }
 }
@@ -55,21 +55,21 @@ fn number_of(bytes: &[u8]) -> u32
     )
 }
 
-impl Answer {
+impl ConverterAnswer {
     // Two answers agree if they are the same, or both refusals: the other converter gives no cause.
-    pub fn agrees(self, other: Answer) -> bool
+    pub fn agrees(self, other: ConverterAnswer) -> bool
         ensures same { self ≡ other → result ≡ true }
         ensures refusals { is_refusal self ≡ true → is_refusal other ≡ true → result ≡ true }
         ensures only { result ≡ true → (self ≡ other) ⊎ ((is_refusal self ≡ true) × (is_refusal other ≡ true)) }
     {
         match (self, other) {
-            (Answer::Refused(_), Answer::Refused(_)) => true,
+            (ConverterAnswer::Refused(_), ConverterAnswer::Refused(_)) => true,
             _ => self == other,
         }
     }
 }
 
-impl fmt::Display for Answer {
+impl fmt::Display for ConverterAnswer {
     ghost use Rattle.std.specs.Prelude.{Some};
     ghost use Rattle.conformance.specs.Texts.{answer_text};
 
@@ -78,14 +78,14 @@ impl fmt::Display for Answer {
     #[tactic(auto, using(crate::proofs::Texts::padded_is_hex_of))]
     fn fmt<W: fmt::Write>(&self, f: &mut fmt::Formatter<W>) -> fmt::Result {
         match self {
-            Answer::Character(character, length) => write!(f, "U+{character:04X} of {length}"),
-            Answer::Open => write!(f, "open"),
-            Answer::Refused(cause) => write!(f, "refused {cause}"),
-            Answer::Bytes(number, length) => {
+            ConverterAnswer::Character(character, length) => write!(f, "U+{character:04X} of {length}"),
+            ConverterAnswer::Open => write!(f, "open"),
+            ConverterAnswer::Refused(cause) => write!(f, "refused {cause}"),
+            ConverterAnswer::Bytes(number, length) => {
                 let width = length.saturating_mul(2);
                 write!(f, "{number:0width$X}")
             }
-            Answer::NoCoding => write!(f, "none"),
+            ConverterAnswer::NoCoding => write!(f, "none"),
         }
     }
 }

@@ -7,7 +7,7 @@ mod known;
 mod run;
 mod vector;
 
-use run::Run;
+use run::Stretch;
 use std::io::{BufRead, BufReader};
 use vector::Vector;
 
@@ -20,7 +20,7 @@ struct Count {
 
 impl Count {
     // Counts a run, and prints it if it differs.
-    fn add(&mut self, rt: &HostRuntime, run: &Run) -> anyhow::Result<()> {
+    fn add(&mut self, rt: &HostRuntime, run: &Stretch) -> anyhow::Result<()> {
         let questions = run.question_count();
         if run.ours.agrees(run.vector.answer) {
             self.agree = self.agree.saturating_add(questions);
@@ -34,7 +34,7 @@ impl Count {
     // Puts the questions of a vector to our set. A loop: to collect the answers first and group
     // them would take memory for a million of them.
     fn hold(&mut self, rt: &HostRuntime, vector: &Vector) -> anyhow::Result<()> {
-        let mut run = Run {
+        let mut run = Stretch {
             vector,
             from: vector.from,
             to: vector.to,
@@ -44,8 +44,8 @@ impl Count {
             let ours = vector.ask(number);
             if ours != run.ours {
                 let to = number.saturating_sub(1);
-                self.add(rt, &Run { to, ..run })?;
-                run = Run {
+                self.add(rt, &Stretch { to, ..run })?;
+                run = Stretch {
                     from: number,
                     ours,
                     ..run

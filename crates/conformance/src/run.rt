@@ -2,20 +2,20 @@
 ghost use Rattle.std.specs.Prelude.{◌≡◌, ◌+◌, ◌-◌};
 ghost use Rattle.conformance.specs.Differences.{first_byte, Apart, ApartInReading, ApartInWriting};
 
-use crate::answer::Answer;
+use crate::answer::ConverterAnswer;
 use crate::known::{Known, beyond, in_6937};
 use crate::vector::{Question, Set, Vector};
 use std::fmt;
 
 #[derive(Clone, Copy)]
-pub struct Run<'a> {
+pub struct Stretch<'a> {
     pub vector: &'a Vector,
     pub from: u32,
     pub to: u32,
-    pub ours: Answer,
+    pub ours: ConverterAnswer,
 }
 
-impl Run<'_> {
+impl Stretch<'_> {
     pub(crate) fn question_count(&self) -> u64
         ensures { result ≡ self.now.to + 1 - self.now.from }
     {
@@ -38,9 +38,9 @@ impl Run<'_> {
     {
         let first = if width > 2 { self.from >> 8 } else { self.from };
         match (self.vector.set, self.vector.answer, self.ours) {
-            (_, Answer::Open, Answer::Refused(_)) => Some(Known::Waits),
+            (_, ConverterAnswer::Open, ConverterAnswer::Refused(_)) => Some(Known::Waits),
             (Set::Utf8, _, _) => None,
-            (set, Answer::Character(character, 1), Answer::Refused(31)) => beyond(
+            (set, ConverterAnswer::Character(character, 1), ConverterAnswer::Refused(31)) => beyond(
                 set, character, first,
             ),
             (Set::Iso6937, theirs, ours) => in_6937(theirs, ours),
@@ -54,18 +54,18 @@ impl Run<'_> {
     {
         match (self.vector.set, self.vector.answer, self.from) {
             (Set::Utf8, _, _) => None,
-            (_, Answer::Bytes(0, 0), 0xE0000..=0xE007F) => Some(Known::Tags),
+            (_, ConverterAnswer::Bytes(0, 0), 0xE0000..=0xE007F) => Some(Known::Tags),
             (Set::Iso6937, _, 0x2014..=0x2015) => Some(Known::Bar),
             (Set::Iso6937, _, 0xD0 | 0x110) => Some(Known::Stroke),
             (Set::Iso6937, _, 0x123) => Some(Known::SmallG),
-            (set, Answer::Bytes(byte, 1), number) => beyond(set, number, byte),
+            (set, ConverterAnswer::Bytes(byte, 1), number) => beyond(set, number, byte),
             _ => None,
         }
     }
 }
 
 // Its text is not promised: the kind of a difference is a relation in the specs, and no function.
-impl fmt::Display for Run<'_> {
+impl fmt::Display for Stretch<'_> {
     fn fmt<W: fmt::Write>(&self, f: &mut fmt::Formatter<W>) -> fmt::Result {
         let from = self.from;
         let to = self.to;

@@ -3,7 +3,7 @@ ghost use Rattle.charset.specs.Sets.{set_of};
 ghost use Rattle.conformance.specs.Agreement.{TellsReading, Tells};
 ghost use Rattle.conformance.specs.Meanings.{meaning_of};
 
-use crate::answer::Answer;
+use crate::answer::ConverterAnswer;
 use charset::CharacterSet;
 use sets::{Iso6937, SingleByte, Utf8};
 use std::error::Error;
@@ -69,7 +69,7 @@ pub struct Vector {
     pub question: Question,
     pub from: u32,
     pub to: u32,
-    pub answer: Answer,
+    pub answer: ConverterAnswer,
 }
 
 #[derive(Clone, Copy, Debug, PartialEq, Eq)]
@@ -98,23 +98,23 @@ fn hex(text: &str) -> Result<u32, NotAVector> {
 }
 
 // The other converter's answer to a reading, as `C1/2`, `open` or `refused`.
-fn read_answer(text: &str) -> Result<Answer, NotAVector> {
+fn read_answer(text: &str) -> Result<ConverterAnswer, NotAVector> {
     match text {
-        "open" => Ok(Answer::Open),
-        "refused" => Ok(Answer::Refused(0)),
+        "open" => Ok(ConverterAnswer::Open),
+        "refused" => Ok(ConverterAnswer::Refused(0)),
         _ => {
             let (character, length) = text.split_once('/').ok_or(NotAVector)?;
-            Ok(Answer::Character(hex(character)?, length.parse::<usize>()?))
+            Ok(ConverterAnswer::Character(hex(character)?, length.parse::<usize>()?))
         }
     }
 }
 
 // The other converter's answer to a writing, as `C241`, `none` or `-`.
-fn write_answer(text: &str) -> Result<Answer, NotAVector> {
+fn write_answer(text: &str) -> Result<ConverterAnswer, NotAVector> {
     match text {
-        "none" => Ok(Answer::NoCoding),
-        "-" => Ok(Answer::Bytes(0, 0)),
-        _ => Ok(Answer::Bytes(hex(text)?, text.len() / 2)),
+        "none" => Ok(ConverterAnswer::NoCoding),
+        "-" => Ok(ConverterAnswer::Bytes(0, 0)),
+        _ => Ok(ConverterAnswer::Bytes(hex(text)?, text.len() / 2)),
     }
 }
 
@@ -146,13 +146,13 @@ impl FromStr for Vector {
 }
 
 // What a set reads in a string.
-fn reading_of<S: CharacterSet>(set: &S, bytes: &[u8]) -> Answer
+fn reading_of<S: CharacterSet>(set: &S, bytes: &[u8]) -> ConverterAnswer
     ensures { TellsReading (set_of S.CharacterSet set.now) bytes.now result }
 {
-    Answer::from(set.read(bytes))
+    ConverterAnswer::from(set.read(bytes))
 }
 
-fn ask<S: CharacterSet>(set: &S, question: Question, number: u32) -> Answer
+fn ask<S: CharacterSet>(set: &S, question: Question, number: u32) -> ConverterAnswer
     ensures { Tells (set_of S.CharacterSet set.now) question number result }
 {
     match question {
@@ -161,13 +161,13 @@ fn ask<S: CharacterSet>(set: &S, question: Question, number: u32) -> Answer
             let start = 4usize.saturating_sub(width / 2);
             reading_of(set, &bytes[start..])
         }
-        Question::Write => Answer::from(set.write(number)),
+        Question::Write => ConverterAnswer::from(set.write(number)),
     }
 }
 
 impl Vector {
     // What our set answers to one question of the run. A `match`: each set is a type of its own.
-    pub(crate) fn ask(&self, number: u32) -> Answer
+    pub(crate) fn ask(&self, number: u32) -> ConverterAnswer
         ensures { Tells (meaning_of self.now.set) self.now.question number result }
     {
         match self.set {

@@ -1,5 +1,4 @@
--- Characters that lead on, one more and some more, and that they lead to one end only. Assumes
--- nothing.
+-- Characters that lead on, one more and some more, and that they lead to one end only.
 use Rattle.std.proofs.Common.{◌≡◌, ℕ, ◌+◌, ◌≤◌, cond, ltb, List, [], ◌∷◌, ◌++◌, length, take, drop}
 use Rattle.std.proofs.Common.{Some, None, Ok, Err, Option, sym, refl, ap, ◌∙◌, inl, inr}
 use Rattle.std.proofs.Common.{append_assoc, append-nil, arith, length-append, take-append-drop}
@@ -7,7 +6,7 @@ use lib.Seq.{take-append_seam}
 use Rattle.std.proofs.lemmas.Bool.{lt-ltb, le-ltb}
 use Rattle.charset.specs.declared.Reading.TheVariants as reading
 use Rattle.charset.specs.Meaning.{Meaning, Codes, Laws}
-use Rattle.charset.specs.Answers.{Answer, Reads, reading}
+use Rattle.charset.specs.Answers.{ReadAnswer, Reads, reading}
 use Rattle.charset.specs.Decoding.{Spells}
 use Rattle.charset.proofs.FrontLemmas.{reading_is}
 use Rattle.charset.proofs.Spelling.{spells_append, spells_split, spells_one, fronts}
@@ -24,7 +23,7 @@ abbrev coded_next : ℕ → Option (List ℕ) → ℕ → ℕ → Next
 coded_next c None used room = halts (Err (Unwritten c))
 coded_next c (Some v) used room = cond (ltb room (used + length v)) (halts (Ok Full)) (writes v)
 
-abbrev next : Meaning → Answer → ℕ → ℕ → Next
+abbrev next : Meaning → ReadAnswer → ℕ → ℕ → Next
 next T (Ok (reading.Found c n)) used room = coded_next c (T.codings.string c) used room
 next T (Ok reading.Open) used room = halts (Ok Open)
 next T (Err q) used room = halts (Err (Unread q))

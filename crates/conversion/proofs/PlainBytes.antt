@@ -22,10 +22,10 @@ whole l b c (suc zero) r = r.1
 whole l b c (suc (suc n)) r = absurd (omega (arith, r.0))
 
 -- what a byte becomes, told by what comes next in it alone
-abbrev pub told : Result (Option (List ℕ × ℕ)) Fault → Option ℕ
-told (Ok (Some p)) = only_byte (Some p.0)
-told (Ok None) = None
-told (Err f) = None
+abbrev pub plain_of : Result (Option (List ℕ × ℕ)) Fault → Option ℕ
+plain_of (Ok (Some p)) = only_byte (Some p.0)
+plain_of (Ok None) = None
+plain_of (Err f) = None
 
 module _ {S : Meaning} (T : Meaning) (l : Laws S) (b : ℕ) where
   -- where no coding stands in front, the byte codes nothing
@@ -37,13 +37,13 @@ module _ {S : Meaning} (T : Meaning) (l : Laws S) (b : ℕ) where
       go None e = refl
       go (Some c) e = absurd (h 1 c e)
 
-  pub told_plain : (r : Result (Option (List ℕ × ℕ)) Fault) → ComesNext S T (b ∷ []) r
-      → told r ≡ plain S T b
-  told_plain (Ok (Some p)) h = sym (rw (whole l b h.0 p.1 h.1, h.2))
-  told_plain (Ok None) h = sym (silent (l.opening_bare (b ∷ []) h))
-  told_plain (Err (Unread q)) h = sym (silent h.0.0)
-  told_plain (Err (Unwritten c)) h = sym (rw (whole l b c h.0 h.1, h.2))
-  told_plain (Err Unfinished) h = absurd h
+  pub plain_of_next : (r : Result (Option (List ℕ × ℕ)) Fault) → ComesNext S T (b ∷ []) r
+      → plain_of r ≡ plain S T b
+  plain_of_next (Ok (Some p)) h = sym (rw (whole l b h.0 p.1 h.1, h.2))
+  plain_of_next (Ok None) h = sym (silent (l.opening_bare (b ∷ []) h))
+  plain_of_next (Err (Unread q)) h = sym (silent h.0.0)
+  plain_of_next (Err (Unwritten c)) h = sym (rw (whole l b c h.0 h.1, h.2))
+  plain_of_next (Err Unfinished) h = absurd h
 
 -- where nothing is known of any byte, nothing is wrong
 pub none_known : (S T : Meaning) → (b t : ℕ) → b < 256

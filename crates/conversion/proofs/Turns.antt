@@ -13,9 +13,9 @@ use Rattle.charset.specs.Meaning.{Meaning, Laws}
 use Rattle.charset.specs.Answers.{Reads}
 use Rattle.conversion.specs.declared.Fault.TheVariants.{Unread, Unwritten, Unfinished}
 use Rattle.conversion.specs.declared.Pause.TheVariants.{Open, Full}
-use Rattle.conversion.specs.declared.Step.TheVariants.{Written}
+use Rattle.conversion.specs.declared.Advance.TheVariants.{Written}
 use Rattle.conversion.specs.Stops.{End, Leads, Stops}
-use Rattle.conversion.specs.Steps.{Steps}
+use Rattle.conversion.specs.Advances.{Advances}
 use Rattle.conversion.specs.Runs.{Far, Runs}
 use Rattle.conversion.specs.Plain.{plain}
 use Rattle.conversion.proofs.Leading.{leads_none, leads_more, leads_on}
@@ -86,7 +86,7 @@ module _ (S T : Meaning) (l : Laws S) (input out o : List ℕ) (count at put : �
       }
 
   pub far_more : (o' last : List ℕ) (n k : ℕ)
-      → Steps S T (drop at input) (take (length o - put) (drop put o)) last (Ok (Written n k))
+      → Advances S T (drop at input) (take (length o - put) (drop put o)) last (Ok (Written n k))
       → o' ≡ put_mid put (length o - put) o last
       → Far S T input out o' (count + 1) (at + n) (put + k)
   far_more o' last n k s o'-is =

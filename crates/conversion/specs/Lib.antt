@@ -1,6 +1,6 @@
 pub mod Stops
 pub mod Next
-pub mod Steps
+pub mod Advances
 pub mod Runs
 pub mod Becomes
 pub mod Plain

@@ -19,7 +19,7 @@ pub struct Converter<S: CharacterSet, T: CharacterSet> {
 
 impl<S: CharacterSet, T: CharacterSet> Converter<S, T> {
     pub fn new(source: S, target: T) -> Converter<S, T>
-        ensures sets { (result.sets.source ≡ source) × (result.sets.target ≡ target) }
+        ensures same_sets { (result.sets.source ≡ source) × (result.sets.target ≡ target) }
     {
         Converter {
             sets: TwoSets::new(source, target),
@@ -30,7 +30,7 @@ impl<S: CharacterSet, T: CharacterSet> Converter<S, T> {
     // The held bytes and then the sector, character after character, into the output, until
     // something ends it.
     pub fn convert(&mut self, held: Front, sector: &[u8], output: &mut [u8]) -> Run
-        ensures sets { (self.new.sets.source ≡ self.old.sets.source) × (self.new.sets.target ≡ self.old.sets.target) }
+        ensures same_sets { (self.new.sets.source ≡ self.old.sets.source) × (self.new.sets.target ≡ self.old.sets.target) }
         ensures runs { Runs (set_of S.CharacterSet self.old.sets.source) (set_of T.CharacterSet self.old.sets.target) (held ++ sector.now) output.old output.new result }
     {
         self.sets.prepare(sector.len());

@@ -44,7 +44,7 @@ pub enum Pause {
 // What comes of one character, where there is no fault. A pause is no error, since the conversion
 // goes on with the next bytes or the next output, and so it stands beside what is written.
 #[derive(Clone, Copy)]
-pub enum Step {
+pub enum Advance {
     // It was read from so many bytes, and written as so many.
     Written { read: usize, written: usize },
     Paused(Pause),

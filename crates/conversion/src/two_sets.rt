@@ -5,10 +5,10 @@ ghost use Rattle.conversion.specs.Next.{ComesNext};
 ghost use Rattle.conversion.specs.Met.{Right};
 ghost use Rattle.conversion.specs.Plain.{only_byte, plain, AllKnown, Known};
 ghost use Rattle.conversion.specs.Runs.{Far, Runs};
-ghost use Rattle.conversion.specs.Steps.{Steps};
+ghost use Rattle.conversion.specs.Advances.{Advances};
 
 use crate::met::MetCodings;
-use crate::{Fault, Pause, Run, Step, next_coding};
+use crate::{Fault, Pause, Run, Advance, next_coding};
 use charset::{CharacterSet, Coding, Front};
 
 // The byte of a coding of one byte.
@@ -60,7 +60,7 @@ pub struct TwoSets<S: CharacterSet, T: CharacterSet> {
 
 impl<S: CharacterSet, T: CharacterSet> TwoSets<S, T> {
     pub(crate) fn new(source: S, target: T) -> TwoSets<S, T>
-        ensures sets { (result.source ≡ source) × (result.target ≡ target) }
+        ensures same_sets { (result.source ≡ source) × (result.target ≡ target) }
     {
         TwoSets {
             source,
@@ -73,7 +73,7 @@ impl<S: CharacterSet, T: CharacterSet> TwoSets<S, T> {
     // Looks up what each byte becomes, unless that is done, where so many bytes are to come that it
     // is worth it.
     pub(crate) fn prepare(&mut self, bytes: usize)
-        ensures sets { (self.new.source ≡ self.old.source) × (self.new.target ≡ self.old.target) }
+        ensures same_sets { (self.new.source ≡ self.old.source) × (self.new.target ≡ self.old.target) }
     {
         if bytes >= MANY_BYTES && !self.is_prepared {
             self.known = plain_bytes(&self.source, &self.target);
@@ -133,21 +133,21 @@ impl<S: CharacterSet, T: CharacterSet> TwoSets<S, T> {
         met: &mut MetCodings,
         input: &[u8],
         output: &mut [u8],
-    ) -> Result<Step, Fault>
+    ) -> Result<Advance, Fault>
         requires { Right (set_of S.CharacterSet self.now.source) (set_of T.CharacterSet self.now.target) met.old }
         ensures right { Right (set_of S.CharacterSet self.now.source) (set_of T.CharacterSet self.now.target) met.new }
-        ensures steps { Steps (set_of S.CharacterSet self.now.source) (set_of T.CharacterSet self.now.target) input.now output.old output.new result }
+        ensures steps { Advances (set_of S.CharacterSet self.now.source) (set_of T.CharacterSet self.now.target) input.now output.old output.new result }
     {
         let Some((coding, length)) = self.next(met, input)? else {
-            return Ok(Step::Paused(Pause::Open));
+            return Ok(Advance::Paused(Pause::Open));
         };
         let bytes = coding.as_bytes();
         let written = bytes.len();
         if output.len() < written {
-            return Ok(Step::Paused(Pause::Full));
+            return Ok(Advance::Paused(Pause::Full));
         }
         output[..written].copy_from_slice(bytes);
-        Ok(Step::Written {
+        Ok(Advance::Written {
             read: length,
             written,
         })
@@ -162,11 +162,11 @@ impl<S: CharacterSet, T: CharacterSet> TwoSets<S, T> {
         sector: &[u8],
         at: usize,
         output: &mut [u8],
-    ) -> Result<Step, Fault>
+    ) -> Result<Advance, Fault>
         requires right { Right (set_of S.CharacterSet self.now.source) (set_of T.CharacterSet self.now.target) met.old }
         requires inside { at ≤ length (held ++ sector.now) }
         ensures right { Right (set_of S.CharacterSet self.now.source) (set_of T.CharacterSet self.now.target) met.new }
-        ensures steps { Steps (set_of S.CharacterSet self.now.source) (set_of T.CharacterSet self.now.target) (drop at (held ++ sector.now)) output.old output.new result }
+        ensures steps { Advances (set_of S.CharacterSet self.now.source) (set_of T.CharacterSet self.now.target) (drop at (held ++ sector.now)) output.old output.new result }
     {
         let bytes = held.as_bytes();
         if at < bytes.len() {
@@ -205,7 +205,7 @@ impl<S: CharacterSet, T: CharacterSet> TwoSets<S, T> {
             }
             match self.one_at(met, held, sector, read, &mut output[written..]) {
                 Ok(
-                    Step::Written {
+                    Advance::Written {
                         read: more,
                         written: put,
                     },
@@ -214,7 +214,7 @@ impl<S: CharacterSet, T: CharacterSet> TwoSets<S, T> {
                     read += more;
                     written += put;
                 }
-                Ok(Step::Paused(pause)) => break Ok(pause),
+                Ok(Advance::Paused(pause)) => break Ok(pause),
                 Err(fault) => break Err(fault),
             }
         };

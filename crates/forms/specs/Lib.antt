@@ -1,3 +1,4 @@
-pub use Rattle.form_sets.specs.Forms
-pub mod Examples
-pub mod Texts
+pub mod FormSets
+pub mod PageControls
+pub mod Chosen
+pub mod ChosenLaws

@@ -1,82 +1,89 @@
-// The text of a page, by its form.
+// The character set of a form of text, chosen while the program runs.
 #![tactic(auto)]
 
-ghost use Rattle.std.specs.Prelude.{◌≡◌, IfOk};
-ghost use Rattle.transcription.specs.Failures.{IsTooLongOrWanting};
-ghost use Rattle.transcription.specs.Carried.{fault_in};
-ghost use Rattle.forms.specs.Examples.{WorkedExamples};
-ghost use Rattle.form_sets.specs.Forms.{form_set};
-ghost use Rattle.forms.specs.Texts.{TextOf, AlwaysWritten, on_page, page_form, IsEmptyText};
-ghost use Rattle.forms.specs.Texts.{IsPageText};
+ghost use Rattle.std.specs.Prelude.{◌≡◌, MatchResult};
+ghost use Rattle.roll.specs.declared.page.Form.TheVariants.{Basic};
+ghost use Rattle.forms.specs.FormSets.{form_set};
+ghost use Rattle.forms.specs.Chosen.{meaning_of};
+ghost use Rattle.forms.specs.ChosenLaws.{chosen_laws};
 
-use answers::FaultAt;
-use form_sets::FormSet;
-use pages::{Form, Page, RollFault};
-use sets::Utf8;
+use charset::{CharacterSet, Coding, Reading, SetRefusal};
+use layers::{
+    CharacterList, Controls, Parity, Shift, Subrepertoire, with_controls, with_list, with_parity,
+    with_shift,
+};
+use roll::Form;
+use sets::{Iso6937, SingleByte, Utf8};
 use std::alloc::{AllocError, Global};
-use transcription::{Failure, Transcription, transcribe};
 
-// Bytes of a form, in UTF-8.
-#[tactic(auto, using(crate::proofs::Shown::worked_examples))]
-pub fn form_text(heap: Global, form: Form, bytes: &[u8]) -> Result<Transcription, Failure>
-    ensures text { IfOk result (λ p. TextOf (form_set form) bytes.now p) }
-    ensures too_long { IsTooLongOrWanting bytes.now result }
-    ensures always_written { IfOk result (λ p. AlwaysWritten (fault_in p.outcome)) }
-    ensures worked_examples { WorkedExamples }
-{
-    let set = FormSet::of(heap, form)?;
-    transcribe(heap, set, Utf8, bytes)
-}
-
-// The text of a page up to its end or a fault, its form, which a picture has not, and how many
-// characters it has.
+// One case for each type of stack: those of ISO/IEC 8859-16 and of the Sami set are of one type.
 #[derive(Drop)]
-pub struct PageText {
-    pub form: Option<Form>,
-    pub text: Vec<u8>,
-    pub characters: u64,
-    pub outcome: Result<(), RollFault>,
+pub enum FormSet {
+    EightBit(Controls<Iso6937>),
+    SevenBit(Controls<Shift<Iso6937>>),
+    SevenBitParity(Parity<Controls<Shift<Iso6937>>>),
+    SingleByte(Controls<SingleByte>),
+    Unicode(Utf8),
+    Basic(Controls<Subrepertoire<Iso6937>>),
 }
 
-// The transcript's fault as the roll's.
-fn on_page(page: u32, outcome: Result<(), FaultAt>) -> Result<(), RollFault>
-    ensures { result ≡ on_page page outcome }
-{
-    outcome.map_err(|fault| (page, fault))?;
-    Ok(())
-}
+impl CharacterSet for FormSet {
+    ghost codings = { λ s. (meaning_of s).codings };
 
-impl PageText {
-    // A page with no text.
-    fn empty(heap: Global, form: Option<Form>, outcome: Result<(), RollFault>) -> PageText
-        ensures { IsEmptyText form outcome result }
-    {
-        PageText {
-            form,
-            text: Vec::new(heap),
-            characters: 0,
-            outcome,
+    ghost openings = { λ s. (meaning_of s).openings };
+
+    ghost causes = { λ s. (meaning_of s).causes };
+
+    ghost lawful = { chosen_laws };
+
+    fn read(&self, bytes: &[u8]) -> Result<Reading, SetRefusal> {
+        match self {
+            FormSet::EightBit(set) => set.read(bytes),
+            FormSet::SevenBit(set) => set.read(bytes),
+            FormSet::SevenBitParity(set) => set.read(bytes),
+            FormSet::SingleByte(set) => set.read(bytes),
+            FormSet::Unicode(set) => set.read(bytes),
+            FormSet::Basic(set) => set.read(bytes),
+        }
+    }
+
+    fn write(&self, number: u32) -> Option<Coding> {
+        match self {
+            FormSet::EightBit(set) => set.write(number),
+            FormSet::SevenBit(set) => set.write(number),
+            FormSet::SevenBitParity(set) => set.write(number),
+            FormSet::SingleByte(set) => set.write(number),
+            FormSet::Unicode(set) => set.write(number),
+            FormSet::Basic(set) => set.write(number),
         }
     }
 }
 
-// The text of a page; a fault carries `number`, the page's number from 1. A page that is longer
-// than a source may be, which no roll can hold, is refused as a roll of that size is.
-pub fn page_text(heap: Global, number: u32, page: &Page) -> Result<PageText, AllocError>
-    ensures form { IfOk result (λ t. t.form ≡ page_form page.now) }
-    ensures text { IfOk result (λ t. IsPageText number page.now t.text.items t.characters t.outcome) }
-{
-    let Page::Text { form, part, .. } = *page else {
-        return Ok(PageText::empty(heap, None, Ok(())));
-    };
-    match form_text(heap, form, part) {
-        Ok(read) => Ok(PageText {
-            form: Some(form),
-            text: read.text,
-            characters: read.characters,
-            outcome: on_page(number, read.outcome),
-        }),
-        Err(Failure::TooLong) => Ok(PageText::empty(heap, Some(form), Err(RollFault::WrongSize))),
-        Err(Failure::NoMemory) => Err(AllocError),
+impl FormSet {
+    // The set of a form. Only the last has a list, which wants memory.
+    pub fn of(heap: Global, form: Form) -> Result<FormSet, AllocError>
+        ensures { MatchResult result (λ s. meaning_of s ≡ form_set form) (λ _. form ≡ Basic) }
+    {
+        match form {
+            Form::EightBit => Ok(FormSet::EightBit(with_controls(PAGE_CONTROLS, Iso6937))),
+            Form::SevenBit => Ok(FormSet::SevenBit(with_controls(
+                PAGE_CONTROLS,
+                with_shift(Iso6937),
+            ))),
+            Form::SevenBitParity => {
+                let seven_bit = with_controls(PAGE_CONTROLS, with_shift(Iso6937));
+                Ok(FormSet::SevenBitParity(with_parity(seven_bit)))
+            }
+            Form::Latin10 => Ok(FormSet::SingleByte(with_controls(
+                PAGE_CONTROLS,
+                SingleByte::iso8859_16(),
+            ))),
+            Form::Sami => Ok(FormSet::SingleByte(with_controls(PAGE_CONTROLS, SingleByte::sami()))),
+            Form::Unicode => Ok(FormSet::Unicode(Utf8)),
+            Form::Basic => {
+                let basic = with_list(CharacterList::new(heap)?, Iso6937);
+                Ok(FormSet::Basic(with_controls(PAGE_CONTROLS, basic)))
+            }
+        }
     }
 }

@@ -3,22 +3,22 @@ use Rattle.std.proofs.Common.{◌≡◌, ℕ, ◌+◌, min, Bool, true, false, L
 use Rattle.std.proofs.Common.{take, sym, refl, ap, ◌∙◌, subst, append_assoc, append-nil}
 use lib.Seq.{take-append-add}
 use Rattle.std.proofs.lemmas.Bool.{both_ways}
-use Rattle.charset.specs.Meaning.{Meaning, Codes, Opens, Unreadable}
+use Rattle.charset.specs.Meaning.{Meaning, Codes, IsOpening, Unreadable}
 use Rattle.charset.proofs.FrontLemmas.{take_min}
 use Rattle.layers.specs.Words.{FailsAt}
 
 -- it has an opening in front, and a byte with which neither an opening nor a coding comes about
-pub first_fault : (m : Meaning) → Opens m [] → (s : List ℕ) → Unreadable m s
+pub first_fault : (m : Meaning) → IsOpening m [] → (s : List ℕ) → Unreadable m s
     → FailsAt m (λ p x. Unreadable m (p ++ x ∷ [])) s
 first_fault m none s u = go s [] none u
   where
-    go : (s p : List ℕ) → Opens m p → Unreadable m (p ++ s)
+    go : (s p : List ℕ) → IsOpening m p → Unreadable m (p ++ s)
         → FailsAt m (λ p x. Unreadable m (p ++ x ∷ [])) (p ++ s)
     go [] p o u = absurd (both_ways _ (rw append-nil at u.1) o)
     go (x ∷ s) p o u = next (m.openings (p ++ x ∷ [])) refl (go s (p ++ x ∷ []))
       where
         next : (b : Bool) → m.openings (p ++ x ∷ []) ≡ b
-            → (Opens m (p ++ x ∷ []) → Unreadable m ((p ++ x ∷ []) ++ s)
+            → (IsOpening m (p ++ x ∷ []) → Unreadable m ((p ++ x ∷ []) ++ s)
             → FailsAt m (λ p x. Unreadable m (p ++ x ∷ [])) ((p ++ x ∷ []) ++ s))
             → FailsAt m (λ p x. Unreadable m (p ++ x ∷ [])) (p ++ x ∷ s)
         next true e f =

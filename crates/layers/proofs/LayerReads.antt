@@ -6,8 +6,8 @@ use Rattle.std.proofs.lemmas.Bool.{cases_lt, both_ways, false_from_ne_true}
 use Rattle.std.proofs.lemmas.List.{take_min}
 use Rattle.charset.specs.declared.SetRefusal.{SetRefusal}
 use Rattle.charset.specs.declared.Reading.TheVariants.{Found, Open}
-use Rattle.charset.specs.Meaning.{Meaning, Codes, Opens, Unreadable, Laws}
-use Rattle.charset.specs.Answers.{Answer, Reads, reading}
+use Rattle.charset.specs.Meaning.{Meaning, Codes, IsOpening, Unreadable, Laws}
+use Rattle.charset.specs.Answers.{ReadAnswer, Reads, reading}
 use Rattle.layers.specs.Depth.{own, up}
 use Rattle.layers.specs.Recoding.{Recoding, clean, below, ends, is_broken, recoded, Agrees}
 use Rattle.layers.specs.CharacterList.{on_list}
@@ -16,7 +16,7 @@ use Rattle.charset.proofs.FrontLemmas.{reading_is}
 use Rattle.layers.specs.Recode.{codes_parts, codes_from, opens_parts, opens_from, below_take}
 use Rattle.layers.specs.LayersKeep.{kept_parts, control_parts, from_below, new}
 
-abbrev pub sub_read : List ℕ → Answer → Answer
+abbrev pub sub_read : List ℕ → ReadAnswer → ReadAnswer
 sub_read ds (Ok (Found c n)) = cond (on_list ds c) (Ok (Found c n)) (Err (own 37))
 sub_read ds (Ok Open) = (Ok Open)
 sub_read ds (Err q) = Err (up q)
@@ -28,7 +28,7 @@ front_reads l s j d p =
     reading_is l s (Ok (Found d (length (take j s))))
     (rw (length-take j s) (omega arith), rw (length-take j s, take_min j s) p)
 
-pub reads_sub : (ds : List ℕ) {m : Meaning} (l : Laws m) (s : List ℕ) (r : Answer) → Reads m s r
+pub reads_sub : (ds : List ℕ) {m : Meaning} (l : Laws m) (s : List ℕ) (r : ReadAnswer) → Reads m s r
     → Reads (sub ds m) s (sub_read ds r)
 reads_sub ds {m} l s r h = go r (reading_is l s r h) h
   where
@@ -47,22 +47,22 @@ reads_sub ds {m} l s r h = go r (reading_is l s r h) h
       rw e,
     )
 
-    go : (r : Answer) → reading m s ≡ r → Reads m s r → Reads (sub ds m) s (sub_read ds r)
+    go : (r : ReadAnswer) → reading m s ≡ r → Reads m s r → Reads (sub ds m) s (sub_read ds r)
     go (Ok (Found c n)) e h = off c n e h (on_list ds c) refl
     go (Ok Open) e h = h
     go (Err q) e h = ((λ j d p. h.0.0 j d (kept_parts ds l (take j s) d p).1, h.0.1), rw e)
 
-pub sub_answer : (ds : List ℕ) {m : Meaning} (l : Laws m) (s : List ℕ) (r t : Answer) → Reads m s r
+pub sub_answer : (ds : List ℕ) {m : Meaning} (l : Laws m) (s : List ℕ) (r t : ReadAnswer) → Reads m s r
     → t ≡ sub_read ds r → Reads (sub ds m) s t
 sub_answer ds l s r t h e = rw e (reads_sub ds l s r h)
 
-abbrev pub control_read : List Bool → Meaning → List ℕ → Answer → Answer
+abbrev pub control_read : List Bool → Meaning → List ℕ → ReadAnswer → ReadAnswer
 control_read cs m s (Ok (Found c n)) = Ok (Found c n)
 control_read cs m s (Ok Open) = (Ok Open)
 control_read cs m [] (Err q) = Err (up q)
 control_read cs m (c ∷ s) (Err q) = cond (added cs m c) (Ok (Found c 1)) (Err (up q))
 
-pub reads_controls : (cs : List Bool) {m : Meaning} (l : Laws m) (s : List ℕ) (r : Answer)
+pub reads_controls : (cs : List Bool) {m : Meaning} (l : Laws m) (s : List ℕ) (r : ReadAnswer)
     → Reads m s r → Reads (controls cs m) s (control_read cs m s r)
 reads_controls cs {m} l s r h = go s r h
   where
@@ -85,13 +85,13 @@ reads_controls cs {m} l s r h = go s r h
       ap up e,
     )
 
-    go : (s : List ℕ) (r : Answer) → Reads m s r → Reads (controls cs m) s (control_read cs m s r)
+    go : (s : List ℕ) (r : ReadAnswer) → Reads m s r → Reads (controls cs m) s (control_read cs m s r)
     go s (Ok (Found c n)) h = (h.0, from_below cs l (take n s) c h.1)
     go s (Ok Open) h = h
     go [] (Err q) h = absurd (both_ways _ h.0.1 l.empty_opens)
     go (c ∷ s) (Err q) h = maybe c s q h.0 h.1 (added cs m c) refl
 
-pub control_answer : (cs : List Bool) {m : Meaning} (l : Laws m) (s : List ℕ) (r t : Answer)
+pub control_answer : (cs : List Bool) {m : Meaning} (l : Laws m) (s : List ℕ) (r t : ReadAnswer)
     → Reads m s r → t ≡ control_read cs m s r → Reads (controls cs m) s t
 control_answer cs l s r t h e = rw e (reads_controls cs l s r h)
 
@@ -103,7 +103,7 @@ module _ (r : Recoding) (m : Meaning) (a : Agrees r) (l : Laws m) where
       (h, codes_from r m (take n s) c (rw (length-take n s) (omega arith)) e p)
 
   pub reads_open : (s : List ℕ) → length s ≤ 3 → is_broken (ends r false s) ≡ false
-      → Opens m (below r false s) → Reads (recoded r m) s (Ok Open)
+      → IsOpening m (below r false s) → Reads (recoded r m) s (Ok Open)
   reads_open s h e o = opens_from r m s h e o
 
   -- a coding in front is one below of the first four bytes
@@ -131,7 +131,7 @@ module _ (r : Recoding) (m : Meaning) (a : Agrees r) (l : Laws m) where
     rw (reading_is l (below r false (take 4 s)) (Err q) b),
   )
 
-  pub reads_own : (s : List ℕ) (n : ℕ) → Opens m (below r false (take 4 s))
+  pub reads_own : (s : List ℕ) (n : ℕ) → IsOpening m (below r false (take 4 s))
       → (is_broken (ends r false (take 4 s)) ≡ true) ⊎ (4 ≤ length s)
       → n ≡ cond (is_broken (ends r false (take 4 s))) r.fault 36
       → Reads (recoded r m) s (Err (own n))

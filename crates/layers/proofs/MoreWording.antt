@@ -4,7 +4,7 @@ use Rattle.std.proofs.Common.{is_err, is_none, Ok, Err, refl, inl, inr}
 use Rattle.std.proofs.lemmas.Bool.{and_parts, both_ways, lt-ltb, false_from_ne_true}
 use Rattle.charset.specs.declared.Reading.TheVariants.{Found, Open}
 use Rattle.charset.specs.Meaning.{Meaning, Unreadable, Laws}
-use Rattle.charset.specs.Answers.{Answer, Reads, reading}
+use Rattle.charset.specs.Answers.{ReadAnswer, Reads, reading}
 use Rattle.charset.proofs.FrontLemmas.{reading_is, reading_bad, reading_reads}
 use Rattle.layers.specs.CharacterList.{on_list}
 use Rattle.layers.specs.Layers.{added, sub}
@@ -21,7 +21,7 @@ sub_meaning ds m l = record {
   causes_only = λ s u. go s u (reading m s) (reading_reads l s);
 }
   where
-    go : (s : List ℕ) → Unreadable (sub ds m) s → (r : Answer) → Reads m s r
+    go : (s : List ℕ) → Unreadable (sub ds m) s → (r : ReadAnswer) → Reads m s r
         → Unreadable m s ⊎ ((c n : ℕ) × Reads m s (Ok (Found c n)) × (on_list ds c ≡ false))
     go s u (Ok (Found c n)) h =
         inr (c, n, h, false_from_ne_true _ (λ e. u.0 n c (rw (h.1, e) refl)))

@@ -7,10 +7,10 @@ use Rattle.std.proofs.lemmas.Bool.{leb-true}
 use Rattle.std.proofs.lemmas.Bool.Decides.{nat_tests}
 use Rattle.std.proofs.lemmas.List.Sums.{sum_by-cons}
 use Rattle.charset.specs.declared.Reading.TheVariants.{Found, Open}
-use Rattle.charset.specs.Meaning.{Meaning, Opens, Laws}
-use Rattle.charset.specs.Answers.{Answer, Reads}
-use Rattle.layers.specs.declared.recoding.moves.Form.{Form}
-use Rattle.layers.specs.declared.recoding.moves.Form.TheVariants.{One, Two}
+use Rattle.charset.specs.Meaning.{Meaning, IsOpening, Laws}
+use Rattle.charset.specs.Answers.{ReadAnswer, Reads}
+use Rattle.layers.specs.declared.recoding.moves.WrittenByte.{WrittenByte}
+use Rattle.layers.specs.declared.recoding.moves.WrittenByte.TheVariants.{One, Two}
 use Rattle.layers.specs.declared.recoded.scan.Scan.{Scan}
 use Rattle.layers.specs.Depth.{own, up}
 use Rattle.layers.specs.Recoding.{Recoding, Agrees, before, shifted, below, ends, is_broken}
@@ -25,7 +25,7 @@ shifted_size r (b ∷ t) u e =
     go (r.form b) (shifted r t) (shifted_size r t) e
     ∙ sym (sum_by-cons (λ x. form_size (r.form x)) b t)
   where
-    go : (f : Option Form) (o : Option (List ℕ))
+    go : (f : Option WrittenByte) (o : Option (List ℕ))
         → ((v : List ℕ) → o ≡ Some v → length v ≡ size_of r t) → before f o ≡ Some u
         → length u ≡ form_size f + size_of r t
     go f None h e = cc
@@ -54,7 +54,7 @@ module _ (r : Recoding) (m : Meaning) (a : Agrees r) (l : Laws m) (s : List ℕ)
       (rw below_here h.1))
 
   at_four : (b : Bool) → nat_le 4 (length s) ≡ b → is_broken (ends r false (take 4 s)) ≡ false
-      → Opens m (below r false (take 4 s)) → Reads (recoded r m) s (cond b (Err (own 36)) (Ok Open))
+      → IsOpening m (below r false (take 4 s)) → Reads (recoded r m) s (cond b (Err (own 36)) (Ok Open))
   at_four true h e o = reads_own r m a l s 36 o (inr (leb-true 4 (length s) h)) (rw e refl)
   at_four false h e o =
       let short : length s ≤ 3 = grind (arith, nat_tests) in
@@ -62,7 +62,7 @@ module _ (r : Recoding) (m : Meaning) (a : Agrees r) (l : Laws m) (s : List ℕ)
       reads_open r m a l s short (rw whole at e) (rw whole at o)
 
 -- what is read, by the scan of the front and the answer to reading below what it stands for
-abbrev pub recoded_read : Recoding → List ℕ → Scan → Answer → Answer
+abbrev pub recoded_read : Recoding → List ℕ → Scan → ReadAnswer → ReadAnswer
 recoded_read r s scan (Ok (Found c k)) = Ok (Found c (size_of r (take k scan.below)))
 recoded_read r s scan (Ok Open) =
     cond scan.broken (Err (own r.fault)) (cond (nat_le 4 (length s)) (Err (own 36)) (Ok Open))
@@ -70,11 +70,11 @@ recoded_read r s scan (Err q) = Err (up q)
 
 pub recoded_answer : {r : Recoding} {m : Meaning} → Agrees r → Laws m → {s : List ℕ} {scan : Scan}
     → Scans r s scan → {u : List ℕ} → u ≡ scan.below
-    → (x : Answer) → Reads m u x → {t : Answer} → t ≡ recoded_read r s scan x
+    → (x : ReadAnswer) → Reads m u x → {t : ReadAnswer} → t ≡ recoded_read r s scan x
     → Reads (recoded r m) s t
 recoded_answer {r} {m} a l {s} {scan} ok same x h e = rw e (go x (rw (same, ok.stands) at h))
   where
-    open_here : (b : Bool) → scan.broken ≡ b → Opens m (below r false (take 4 s))
+    open_here : (b : Bool) → scan.broken ≡ b → IsOpening m (below r false (take 4 s))
         → Reads (recoded r m) s (cond b (Err (own r.fault))
         (cond (nat_le 4 (length s)) (Err (own 36)) (Ok Open)))
     open_here true f o =
@@ -82,7 +82,7 @@ recoded_answer {r} {m} a l {s} {scan} ok same x h e = rw e (go x (rw (same, ok.s
         reads_own r m a l s r.fault o (inl g) (rw g refl)
     open_here false f o = at_four r m a l s (nat_le 4 (length s)) refl (sym ok.breaks ∙ f) o
 
-    go : (x : Answer) → Reads m (below r false (take 4 s)) x
+    go : (x : ReadAnswer) → Reads m (below r false (take 4 s)) x
         → Reads (recoded r m) s (recoded_read r s scan x)
     go (Ok (Found c k)) h =
         sized_found r m a l s c k (size_of r (take k scan.below)) h (rw ok.stands refl)

@@ -5,8 +5,8 @@ use Rattle.std.proofs.Common.{append_assoc, append-nil, add-one, arith, length-a
 use Rattle.std.proofs.Common.{drop_of_length-le, drop-cons}
 use Rattle.std.proofs.lemmas.Bool.{cases_lt, lt-ltb, le-ltb, le-leb, lt-leb}
 use Rattle.charset.specs.Strings.{joined}
-use Rattle.layers.specs.declared.recoding.moves.Form.{Form}
-use Rattle.layers.specs.declared.recoding.moves.Form.TheVariants.{One, Two}
+use Rattle.layers.specs.declared.recoding.moves.WrittenByte.{WrittenByte}
+use Rattle.layers.specs.declared.recoding.moves.WrittenByte.TheVariants.{One, Two}
 use Rattle.layers.specs.Recoding.{Recoding, before, shifted, at_most_four}
 use Rattle.layers.specs.Scans.{extended}
 
@@ -31,7 +31,7 @@ joined_none u x e = elim (cases_lt (length u) 4) [
 long : (w : List ℕ) → 4 < length w → at_most_four (Some w) ≡ None
 long w h = rw (lt-leb (length w) 4 h) refl
 
-pub extends : (u : List ℕ) (f : Form) (w : List ℕ) → extended u f ≡ Some w
+pub extends : (u : List ℕ) (f : WrittenByte) (w : List ℕ) → extended u f ≡ Some w
     → (length w ≤ 4) × ((o : Option (List ℕ)) → ahead u (before (Some f) o) ≡ ahead w o)
 extends u (One x) w e =
     let p = joined_parts u x w e in
@@ -61,7 +61,7 @@ too_long : (u : List ℕ) (x : ℕ) (v : List ℕ) → 4 ≤ length u
     → at_most_four (Some (u ++ x ∷ v)) ≡ None
 too_long u x v h = long (u ++ x ∷ v) (rw (length-append u (x ∷ v)) (omega arith))
 
-pub fails : (u : List ℕ) (f : Form) → extended u f ≡ None → (o : Option (List ℕ))
+pub fails : (u : List ℕ) (f : WrittenByte) → extended u f ≡ None → (o : Option (List ℕ))
     → at_most_four (ahead u (before (Some f) o)) ≡ None
 fails u f e None = refl
 fails u (One x) e (Some v) = too_long u x v (joined_none u x e)
@@ -86,7 +86,7 @@ module _ (r : Recoding) (t : List ℕ) (i : ℕ) (u : List ℕ) (made : Made r t
     here : shifted r (drop i t) ≡ before (r.form (get_or t i 0)) (shifted r (drop (i + 1) t))
     here = ap (shifted r) (drop-cons t i 0 h) ∙ rw (add-one i) refl
 
-    pub made_more : (f : Form) (w : List ℕ) → r.form (get_or t i 0) ≡ Some f → extended u f ≡ Some w
+    pub made_more : (f : WrittenByte) (w : List ℕ) → r.form (get_or t i 0) ≡ Some f → extended u f ≡ Some w
         → Made r t (i + 1) w
     made_more f w k e =
         let x = extends u f w e in record {
@@ -95,7 +95,7 @@ module _ (r : Recoding) (t : List ℕ) (i : ℕ) (u : List ℕ) (made : Made r t
               made.whole ∙ rw (here, k) (x.1 (shifted r (drop (i + 1) t)));
         }
 
-    pub made_fails : (f : Form) → r.form (get_or t i 0) ≡ Some f → extended u f ≡ None
+    pub made_fails : (f : WrittenByte) → r.form (get_or t i 0) ≡ Some f → extended u f ≡ None
         → at_most_four (shifted r t) ≡ None
     made_fails f k e = rw (made.whole, here, k) (fails u f e (shifted r (drop (i + 1) t)))
 

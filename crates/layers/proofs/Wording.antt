@@ -10,11 +10,11 @@ use Rattle.std.proofs.lemmas.Bool.{cases_lt, both_ways}
 use Rattle.std.proofs.lemmas.Bool.Decides.{nat_tests}
 use Rattle.std.specs.List.{AllByRecursion}
 use Rattle.charset.specs.declared.Reading.TheVariants.{Open}
-use Rattle.charset.specs.Meaning.{Meaning, Codes, Opens, Unreadable, Laws}
+use Rattle.charset.specs.Meaning.{Meaning, Codes, IsOpening, Unreadable, Laws}
 use Rattle.layers.specs.declared.recoding.moves.Move.{Move}
 use Rattle.layers.specs.declared.recoding.moves.Move.TheVariants.{Emit, Hold}
-use Rattle.layers.specs.declared.recoding.moves.Form.{Form}
-use Rattle.layers.specs.declared.recoding.moves.Form.TheVariants.{One, Two}
+use Rattle.layers.specs.declared.recoding.moves.WrittenByte.{WrittenByte}
+use Rattle.layers.specs.declared.recoding.moves.WrittenByte.TheVariants.{One, Two}
 use Rattle.layers.specs.Depth.{own, up}
 use Rattle.layers.specs.Recoding.{End, clean, pending, broken, Recoding, put, stop, below, ends}
 use Rattle.layers.specs.Recoding.{before, shifted, is_broken, recoded, Agrees}
@@ -77,7 +77,7 @@ shifted_shifts : (t s : List ℕ) → shifted shift_bytes t ≡ Some s → Shift
 shifted_shifts [] s e = cc
 shifted_shifts (b ∷ t) s e = go (shift_form b) refl (shifted shift_bytes t) (shifted_shifts t) e
   where
-    go : (f : Option Form) → shift_form b ≡ f → (o : Option (List ℕ))
+    go : (f : Option WrittenByte) → shift_form b ≡ f → (o : Option (List ℕ))
         → ((u : List ℕ) → o ≡ Some u → Shifts t u) → before f o ≡ Some s → Shifts (b ∷ t) s
     go f h None g e = cc
     go (Some (One x)) h (Some u) g e =
@@ -178,8 +178,8 @@ module _ {r : Recoding} (a : Agrees r) (m : Meaning) where
       go None f e = absurd (unbroken h (sym e))
 
   -- an opening is a string that shifts an opening below, with or without one more held byte
-  form_opens : (s : List ℕ) → Opens (recoded r m) s
-      → (length s ≤ 3) × ((t : List ℕ) × Opens m t × ((shifted r t ≡ Some s) ⊎ Split s t))
+  form_opens : (s : List ℕ) → IsOpening (recoded r m) s
+      → (length s ≤ 3) × ((t : List ℕ) × IsOpening m t × ((shifted r t ≡ Some s) ⊎ Split s t))
   form_opens s o =
       let h = opens_parts r m s o in (h.0, (below r false s, h.2, go (ends r false s) refl h.1))
     where
@@ -198,8 +198,8 @@ module _ {r : Recoding} (a : Agrees r) (m : Meaning) where
       let j = join false i.0 false (i.1 ∷ []) g.0 in
       rw (i.2, j.0, j.1, i.3, append-nil) (refl, g.1)
 
-  form_opened : (s t : List ℕ) → length s ≤ 3 → Opens m t → (shifted r t ≡ Some s) ⊎ Split s t
-      → Opens (recoded r m) s
+  form_opened : (s t : List ℕ) → length s ≤ 3 → IsOpening m t → (shifted r t ≡ Some s) ⊎ Split s t
+      → IsOpening (recoded r m) s
   form_opened s t h o d = let g = form_ends s t d in opens_from r m s h g.0 (rw g.1 o)
 
   -- what a wrong byte does
@@ -222,7 +222,7 @@ module _ {r : Recoding} (a : Agrees r) (m : Meaning) where
       go None i f g = (refl, refl)
 
   module _ (l : Laws m) where
-    own_cause : (p rest : List ℕ) (x : ℕ) → Opens (recoded r m) p
+    own_cause : (p rest : List ℕ) (x : ℕ) → IsOpening (recoded r m) p
         → (ends r false p ≡ clean → r.step false x ≡ None)
         → (ends r false p ≡ pending → r.step true x ≡ None)
         → (recoded r m).causes (p ++ x ∷ rest) ≡ own r.fault
@@ -235,7 +235,7 @@ module _ {r : Recoding} (a : Agrees r) (m : Meaning) where
         let w = wrong_join p false x (take (3 - length p) rest) f g in
         rw (e, w.0, w.1, reading_is l (below r false p) (Ok Open) h.2)
 
-    long_cause : (s t rest : List ℕ) → length s ≡ 4 → Opens m t → (shifted r t ≡ Some s) ⊎ Split s t
+    long_cause : (s t rest : List ℕ) → length s ≡ 4 → IsOpening m t → (shifted r t ≡ Some s) ⊎ Split s t
         → (recoded r m).causes (s ++ rest) ≡ own 36
     long_cause s t rest h o d =
         let g = form_ends s t d in
@@ -260,24 +260,24 @@ module _ {r : Recoding} (a : Agrees r) (m : Meaning) where
     abbrev Fault : List ℕ → ℕ → Type 0
     Fault p x =
         ((h : Bool) × (ends r false p ≡ cond h pending clean) × (r.step h x ≡ None))
-        ⊎ (((length p ≡ 3) × (t : List ℕ) × Opens m t
+        ⊎ (((length p ≡ 3) × (t : List ℕ) × IsOpening m t
         × ((shifted r t ≡ Some (p ++ x ∷ [])) ⊎ Split (p ++ x ∷ []) t))
         ⊎ ((t : List ℕ) × (shifted r t ≡ Some (p ++ x ∷ [])) × Unreadable m t))
 
-    fault : (p : List ℕ) (x : ℕ) → Opens (recoded r m) p → Unreadable (recoded r m) (p ++ x ∷ [])
+    fault : (p : List ℕ) (x : ℕ) → IsOpening (recoded r m) p → Unreadable (recoded r m) (p ++ x ∷ [])
         → Fault p x
     fault p x o u = go (ends r false p) refl
       where
         s : List ℕ
         s = p ++ x ∷ []
 
-        known : (length p ≤ 3) × (is_broken (ends r false p) ≡ false) × Opens m (below r false p)
+        known : (length p ≤ 3) × (is_broken (ends r false p) ≡ false) × IsOpening m (below r false p)
         known = opens_parts r m p o
 
         size : length s ≡ length p + 1
         size = length-append p (x ∷ [])
 
-        waits : is_broken (ends r false s) ≡ false → Opens m (below r false s) → length p ≡ 3
+        waits : is_broken (ends r false s) ≡ false → IsOpening m (below r false s) → length p ≡ 3
         waits e b = elim (cases_lt (length p) 3) [
           | inl h ↦ absurd (both_ways _ u.1 (opens_from r m s (omega (arith, size)) e b))
           | inr h ↦ omega (arith, known.0)
@@ -324,7 +324,7 @@ module _ {r : Recoding} (a : Agrees r) (m : Meaning) where
             let j = join false p false (x ∷ []) e in
             let ended : ends r false s ≡ pending = j.0 ∙ (rw k refl) in
             let same : below r false s ≡ below r false p = j.1 ∙ (rw (k, append-nil) refl) in
-            let z : Opens m (below r false s) = rw same known.2 in
+            let z : IsOpening m (below r false s) = rw same known.2 in
             inr (inl (waits (rw ended refl) z, below r false s, z, inr (pending_split s ended)))
 
         go : (e : End) → ends r false p ≡ e → Fault p x
@@ -439,7 +439,7 @@ shift_meaning m l = record {
 
     kind : (p : List ℕ) (x : ℕ) → Fault shift_agrees m l p x
         → CannotFollow p x
-        ⊎ (((length p ≡ 3) × (t : List ℕ) × Opens m t × BeginsShifted t (p ++ x ∷ []))
+        ⊎ (((length p ≡ 3) × (t : List ℕ) × IsOpening m t × BeginsShifted t (p ++ x ∷ []))
         ⊎ ((t : List ℕ) × Shifts t (p ++ x ∷ []) × Unreadable m t))
     kind p x (inl (false, e, k)) = inl (inl (wrong_high x k))
     kind p x (inl (true, e, k)) = elim (wrong_second x k) [

@@ -1,7 +1,7 @@
 -- Causes of a layer, its own and those from below.
 use Rattle.std.specs.Prelude.{ℕ, ◌+◌, min, Ok, Err}
 use Rattle.charset.specs.declared.SetRefusal.{SetRefusal}
-use Rattle.charset.specs.Answers.{Answer}
+use Rattle.charset.specs.Answers.{ReadAnswer}
 
 -- a cause of the layer's own has depth 0
 abbrev pub own : ℕ → SetRefusal
@@ -12,6 +12,6 @@ abbrev pub up : SetRefusal → SetRefusal
 up q = record { cause = q.cause; depth = min 255 (q.depth + 1) }
 
 -- the cause from below if reading below refuses, else the layer's own
-abbrev pub over : Answer → SetRefusal → SetRefusal
+abbrev pub over : ReadAnswer → SetRefusal → SetRefusal
 over (Ok r) mine = mine
 over (Err q) mine = up q

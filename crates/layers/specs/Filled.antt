@@ -4,7 +4,7 @@ use Rattle.std.specs.Prelude.{Result, ◌≢◌}
 use Rattle.charset.specs.Meaning.{Codings}
 use Rattle.layers.specs.declared.list.ListRefusal.{ListRefusal}
 use Rattle.layers.specs.CharacterList.{required, on_list, rises_at, Rising, Sound}
-use Rattle.layers.specs.Refusals.{Told, told}
+use Rattle.layers.specs.Refusals.{Told, list_told}
 
 -- i is the first index at which the numbers do not rise
 pub record FirstNotRising (xs : List ℕ) (i : ℕ) : Type 0 where
@@ -65,7 +65,7 @@ RefusedAs k xs t = Ground k xs t ⊎ WithoutMemory k xs t
 abbrev pub Filled : {U : Type 0} → Codings → List ℕ → List ℕ → Result U ListRefusal → List ℕ
     → Type 0
 Filled k xs before (Ok _) after = Acceptable k xs × (after ≡ xs)
-Filled k xs before (Err why) after = RefusedAs k xs (told why) × (after ≡ before)
+Filled k xs before (Err why) after = RefusedAs k xs (list_told why) × (after ≡ before)
 
 -- numbers that fit have no ground, and no numbers have two
 pub record OneAnswer (k : Codings) (xs : List ℕ) : Type 0 where

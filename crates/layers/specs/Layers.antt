@@ -7,8 +7,8 @@ use Rattle.charset.specs.Meaning.{Meaning}
 use Rattle.charset.specs.Answers.{reading}
 use Rattle.layers.specs.declared.recoding.moves.Move.{Move}
 use Rattle.layers.specs.declared.recoding.moves.Move.TheVariants.{Emit, Hold}
-use Rattle.layers.specs.declared.recoding.moves.Form.{Form}
-use Rattle.layers.specs.declared.recoding.moves.Form.TheVariants.{One, Two}
+use Rattle.layers.specs.declared.recoding.moves.WrittenByte.{WrittenByte}
+use Rattle.layers.specs.declared.recoding.moves.WrittenByte.TheVariants.{One, Two}
 use Rattle.layers.specs.declared.cause.Cause.TheVariants.{OddParity, NotShifted, NotListed}
 use Rattle.layers.specs.CharacterList.{on_list}
 use Rattle.layers.specs.Causes.{number_of, refusal}
@@ -23,7 +23,7 @@ abbrev pub parity_step : Bool → ℕ → Option Move
 parity_step true x = None
 parity_step false x = cond (nat_lt x 256 && even x) (Some (Emit (x % 128))) None
 
-abbrev pub parity_form : ℕ → Option Form
+abbrev pub parity_form : ℕ → Option WrittenByte
 parity_form b = cond (nat_lt b 128) (Some (One (cond (even b) b (b + 128)))) None
 
 abbrev pub parity_bytes : Recoding
@@ -37,7 +37,7 @@ abbrev pub shift_step : Bool → ℕ → Option Move
 shift_step false x = cond (nat_lt x 0x80) (cond (x == 0x19) (Some Hold) (Some (Emit x))) None
 shift_step true x = cond (nat_le 0x20 x && nat_lt x 0x80) (Some (Emit (x + 0x80))) None
 
-abbrev pub shift_form : ℕ → Option Form
+abbrev pub shift_form : ℕ → Option WrittenByte
 shift_form b =
     cond (nat_lt b 0x80) (cond (b == 0x19) None (Some (One b)))
     (cond (nat_le 0xa0 b && nat_lt b 0x100) (Some (Two 0x19 (b - 0x80))) None)

@@ -8,10 +8,10 @@ use Rattle.std.proofs.lemmas.Nat.{ones_cat}
 use Rattle.std.proofs.lemmas.Bool.{cases_lt, both_ways, and_parts, ltb-true}
 use Rattle.std.proofs.lemmas.Bool.Decides.{nat_tests}
 use Rattle.charset.specs.declared.Reading.TheVariants.{Found, Open}
-use Rattle.charset.specs.Meaning.{Meaning, Codes, Opens, NoFront, Unreadable, Laws}
-use Rattle.charset.specs.Answers.{Answer, Reads, reading}
+use Rattle.charset.specs.Meaning.{Meaning, Codes, IsOpening, NoFront, Unreadable, Laws}
+use Rattle.charset.specs.Answers.{ReadAnswer, Reads, reading}
 use Rattle.layers.specs.declared.recoding.moves.Move.TheVariants.{Emit}
-use Rattle.layers.specs.declared.recoding.moves.Form.TheVariants.{One}
+use Rattle.layers.specs.declared.recoding.moves.WrittenByte.TheVariants.{One}
 use Rattle.layers.specs.Depth.{own, up, over}
 use Rattle.layers.specs.CharacterList.{on_list}
 use Rattle.layers.specs.Layers.{parity_step, parity_form, parity_bytes, parity, shift_bytes, shift}
@@ -159,7 +159,7 @@ module _ (cs : List Bool) {m : Meaning} (l : Laws m) where
         no_value (m.codings.string c) g.1,
       )
     where
-      refusing : (r : Answer) → Reads m (c ∷ []) r → is_err r ≡ true → Unreadable m (c ∷ [])
+      refusing : (r : ReadAnswer) → Reads m (c ∷ []) r → is_err r ≡ true → Unreadable m (c ∷ [])
       refusing (Ok (Found d n)) h e = absurd (both_ways false refl e)
       refusing (Ok Open) h e = absurd (both_ways false refl e)
       refusing (Err q) h e = h.0
@@ -179,13 +179,13 @@ module _ (cs : List Bool) {m : Meaning} (l : Laws m) where
       go (Some d) e = absurd ((added_parts c h).1.0 1 d e)
 
   begins_open : (s : List ℕ) (c n : ℕ) → Codes (controls cs m) s c → n < length s
-      → Opens m (take n s)
+      → IsOpening m (take n s)
   begins_open s c n p g = elim (control_parts s c p) [
     | inl h ↦ l.coding_begins s c n h g
     | inr h ↦ let n_is : n ≡ 0 = omega (arith, ap length h.0) in rw n_is l.empty_opens
   ]
 
-  open_bare : (s : List ℕ) → Opens m s → NoFront (controls cs m) s
+  open_bare : (s : List ℕ) → IsOpening m s → NoFront (controls cs m) s
   open_bare s o n c p = elim (control_parts (take n s) c p) [
     | inl h ↦ l.opening_bare s o n c h
     | inr h ↦ both_ways _ (added_parts c h.1).1.1 (rw h.0 at (l.opening_begins s n o))

@@ -7,12 +7,12 @@ use Rattle.std.proofs.lemmas.Bool.{cond_both}
 use Rattle.std.specs.List.{AllByRecursion}
 use Rattle.charset.specs.declared.SetRefusal.{SetRefusal}
 use Rattle.charset.specs.declared.Reading.TheVariants.{Found, Open}
-use Rattle.charset.specs.Meaning.{Meaning, Codes, Opens, NoFront, Unreadable, Laws}
-use Rattle.charset.specs.Answers.{Answer, Reads, reading}
+use Rattle.charset.specs.Meaning.{Meaning, Codes, IsOpening, NoFront, Unreadable, Laws}
+use Rattle.charset.specs.Answers.{ReadAnswer, Reads, reading}
 use Rattle.layers.specs.declared.recoding.moves.Move.{Move}
 use Rattle.layers.specs.declared.recoding.moves.Move.TheVariants.{Emit, Hold}
-use Rattle.layers.specs.declared.recoding.moves.Form.{Form}
-use Rattle.layers.specs.declared.recoding.moves.Form.TheVariants.{One, Two}
+use Rattle.layers.specs.declared.recoding.moves.WrittenByte.{WrittenByte}
+use Rattle.layers.specs.declared.recoding.moves.WrittenByte.TheVariants.{One, Two}
 use Rattle.layers.specs.Depth.{over}
 use Rattle.layers.specs.Recoding.{End, clean, pending, broken, Recoding, put, stop, below, ends}
 use Rattle.layers.specs.Recoding.{before, shifted, is_clean, is_broken, at_most_four, shift_of}
@@ -24,7 +24,7 @@ pub over_small : {m : Meaning} → Laws m → (t : List ℕ) (q : SetRefusal) �
     → ((over (reading m t) q).cause < 256) × ((over (reading m t) q).depth < 256)
 over_small {m} l t q h k = go (reading m t) (reading_reads l t)
   where
-    go : (r : Answer) → Reads m t r → ((over r q).cause < 256) × ((over r q).depth < 256)
+    go : (r : ReadAnswer) → Reads m t r → ((over r q).cause < 256) × ((over r q).depth < 256)
     go (Ok (Found c n)) e = (h, k)
     go (Ok Open) e = (h, k)
     go (Err x) e = rw e.1 ((l.cause_sized t e.0).0, omega arith)
@@ -124,7 +124,7 @@ module _ {r : Recoding} (a : Agrees r) where
   shifted_reads [] s e = let e' : [] ≡ s = cc in rw (← e') (refl, refl)
   shifted_reads (b ∷ t) s e = go (r.form b) refl (shifted r t) (shifted_reads t) e
     where
-      go : (f : Option Form) → r.form b ≡ f → (o : Option (List ℕ))
+      go : (f : Option WrittenByte) → r.form b ≡ f → (o : Option (List ℕ))
           → ((u : List ℕ) → o ≡ Some u → (ends r false u ≡ clean) × (below r false u ≡ t))
           → before f o ≡ Some s
           → (ends r false s ≡ clean) × (below r false s ≡ b ∷ t)
@@ -196,15 +196,15 @@ module _ (r : Recoding) (m : Meaning) where
       → Codes m (below r false s) c → Codes (recoded r m) s c
   codes_from s c h e p = rw (le-leb (length s) 4 h, e) p
 
-  pub opens_parts : (s : List ℕ) → Opens (recoded r m) s
-      → (length s ≤ 3) × (is_broken (ends r false s) ≡ false) × Opens m (below r false s)
+  pub opens_parts : (s : List ℕ) → IsOpening (recoded r m) s
+      → (length s ≤ 3) × (is_broken (ends r false s) ≡ false) × IsOpening m (below r false s)
   opens_parts s p =
       let h = and_parts _ _ p in
       let g = and_parts _ _ h.1 in
       (leb-true _ _ h.0, not-true _ g.0, g.1)
 
   pub opens_from : (s : List ℕ) → length s ≤ 3 → is_broken (ends r false s) ≡ false
-      → Opens m (below r false s) → Opens (recoded r m) s
+      → IsOpening m (below r false s) → IsOpening (recoded r m) s
   opens_from s h e p = rw (le-leb (length s) 3 h, e) p
 
   unbroken_take : (s : List ℕ) (n : ℕ) → is_broken (ends r false s) ≡ false
@@ -248,8 +248,8 @@ module _ (r : Recoding) (m : Meaning) where
           le-leb (length s) 4 h.0,
         )
 
-    begins : (s : List ℕ) (n : ℕ) → Opens m (take (length (below r false (take n s)))
-        (below r false s)) → Opens m (below r false (take n s))
+    begins : (s : List ℕ) (n : ℕ) → IsOpening m (take (length (below r false (take n s)))
+        (below r false s)) → IsOpening m (below r false (take n s))
     begins s n o = rw (below_take r s false n) o
 
     pub no_front : (s : List ℕ) → length s ≤ 4 → NoFront (recoded r m) s
@@ -305,12 +305,12 @@ module _ (r : Recoding) (m : Meaning) where
         go broken k = let b = broken_take r s false n k in rw (b.0, b.1, k)
 
     begins_open : (s : List ℕ) (c n : ℕ) → Codes (recoded r m) s c → n < length s
-        → Opens (recoded r m) (take n s)
+        → IsOpening (recoded r m) (take n s)
     begins_open s c n p g = let h = codes_parts s c p in
         opens_from (take n s) (rw (length-take n s) (omega arith)) (unbroken_take s n (rw h.1))
         (begins s n (l.coding_begins _ c _ h.2 (below_strict r s false n h.1 g)))
 
-    open_bare : (s : List ℕ) → Opens (recoded r m) s → NoFront (recoded r m) s
+    open_bare : (s : List ℕ) → IsOpening (recoded r m) s → NoFront (recoded r m) s
     open_bare s o n c p =
         l.opening_bare _ (opens_parts s o).2 (length (below r false (take n s))) c
         (rw (← below_take r s false n) (codes_parts (take n s) c p).2)

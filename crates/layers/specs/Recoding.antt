@@ -7,8 +7,8 @@ use Rattle.charset.specs.Meaning.{Meaning}
 use Rattle.charset.specs.Answers.{reading}
 use Rattle.layers.specs.declared.recoding.moves.Move.{Move}
 use Rattle.layers.specs.declared.recoding.moves.Move.TheVariants.{Emit, Hold}
-use Rattle.layers.specs.declared.recoding.moves.Form.{Form}
-use Rattle.layers.specs.declared.recoding.moves.Form.TheVariants.{One, Two}
+use Rattle.layers.specs.declared.recoding.moves.WrittenByte.{WrittenByte}
+use Rattle.layers.specs.declared.recoding.moves.WrittenByte.TheVariants.{One, Two}
 use Rattle.layers.specs.declared.cause.Cause.TheVariants.{TooLong}
 use Rattle.layers.specs.Causes.{number_of}
 use Rattle.layers.specs.Depth.{own, over}
@@ -21,7 +21,7 @@ pub data End : Type 0 where
 -- the cause of a wrong byte
 pub record Recoding : Type 0 where
   pub step : Bool → ℕ → Option Move
-  pub form : ℕ → Option Form
+  pub form : ℕ → Option WrittenByte
   pub fault : ℕ
 
 abbrev pub put : Option Move → (Bool → List ℕ) → List ℕ
@@ -43,7 +43,7 @@ abbrev pub ends : Recoding → Bool → List ℕ → End
 ends r p [] = cond p pending clean
 ends r p (x ∷ s) = stop (r.step p x) (λ q. ends r q s)
 
-abbrev pub before : Option Form → Option (List ℕ) → Option (List ℕ)
+abbrev pub before : Option WrittenByte → Option (List ℕ) → Option (List ℕ)
 before f None = None
 before (Some (One x)) (Some s) = Some (x ∷ s)
 before (Some (Two x y)) (Some s) = Some (x ∷ y ∷ s)

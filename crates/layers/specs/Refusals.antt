@@ -1,4 +1,4 @@
--- The number and the value that each refusal of a list is told by.
+-- The number and the value that each refusal of a list is list_told by.
 use Rattle.std.specs.Prelude.{ℕ, Some, None, Option}
 use Rattle.layers.specs.declared.list.ListRefusal.{ListRefusal}
 use Rattle.layers.specs.declared.list.ListRefusal.TheVariants.{TooMany, NotIncreasing, Missing}
@@ -8,9 +8,9 @@ pub record Told : Type 0 where
   pub number : ℕ
   pub value : Option ℕ
 
-abbrev pub told : ListRefusal → Told
-told TooMany = record { number = 10; value = None }
-told (NotIncreasing i) = record { number = 11; value = Some i }
-told (Missing c) = record { number = 12; value = Some c }
-told (NoCoding c) = record { number = 13; value = Some c }
-told NoMemory = record { number = 0; value = None }
+abbrev pub list_told : ListRefusal → Told
+list_told TooMany = record { number = 10; value = None }
+list_told (NotIncreasing i) = record { number = 11; value = Some i }
+list_told (Missing c) = record { number = 12; value = Some c }
+list_told (NoCoding c) = record { number = 13; value = Some c }
+list_told NoMemory = record { number = 0; value = None }

@@ -2,8 +2,8 @@
 use Rattle.std.specs.Prelude.{◌≡◌, ℕ, false, List, take, Some, None, Option, option_and_then}
 use Rattle.std.specs.Prelude.{sum_by}
 use Rattle.charset.specs.Strings.{joined}
-use Rattle.layers.specs.declared.recoding.moves.Form.{Form}
-use Rattle.layers.specs.declared.recoding.moves.Form.TheVariants.{One, Two}
+use Rattle.layers.specs.declared.recoding.moves.WrittenByte.{WrittenByte}
+use Rattle.layers.specs.declared.recoding.moves.WrittenByte.TheVariants.{One, Two}
 use Rattle.layers.specs.declared.recoded.scan.Scan.{Scan}
 use Rattle.layers.specs.Recoding.{Recoding, below, ends, is_broken}
 
@@ -11,7 +11,7 @@ pub record Scans (r : Recoding) (s : List ℕ) (found : Scan) : Type 0 where
   pub stands : found.below ≡ below r false (take 4 s)
   pub breaks : found.broken ≡ is_broken (ends r false (take 4 s))
 
-abbrev pub form_size : Option Form → ℕ
+abbrev pub form_size : Option WrittenByte → ℕ
 form_size (Some (One x)) = 1
 form_size (Some (Two x y)) = 2
 form_size None = 0
@@ -21,6 +21,6 @@ abbrev pub size_of : Recoding → List ℕ → ℕ
 size_of r t = sum_by (λ b. form_size (r.form b)) t
 
 -- a string with a byte below behind, as it is written, if it then has at most four bytes
-abbrev pub extended : List ℕ → Form → Option (List ℕ)
+abbrev pub extended : List ℕ → WrittenByte → Option (List ℕ)
 extended u (One x) = joined u x
 extended u (Two x y) = option_and_then (λ v. joined v y) (joined u x)

@@ -5,7 +5,7 @@ use Rattle.std.specs.Prelude.{slice_index_or}
 use Rattle.std.specs.List.{AllByRecursion}
 use Rattle.charset.specs.declared.Reading.TheVariants.{Found}
 use Rattle.charset.specs.Answers.{Reads}
-use Rattle.charset.specs.Meaning.{Meaning, Codes, Opens, Unreadable}
+use Rattle.charset.specs.Meaning.{Meaning, Codes, IsOpening, Unreadable}
 use Rattle.layers.specs.Depth.{own, up}
 use Rattle.layers.specs.CharacterList.{on_list}
 use Rattle.layers.specs.Layers.{parity, shift, sub, controls}
@@ -35,16 +35,16 @@ CannotFollow p x = (0x80 ≤ x) ⊎ ((q t : List ℕ) × (p ≡ q ++ 0x19 ∷ []
 
 -- s is an opening p, a byte x of which Fault p x holds, and more
 abbrev pub FailsAt : Meaning → (List ℕ → ℕ → Type 0) → List ℕ → Type 0
-FailsAt m Fault s = (p rest : List ℕ) × (x : ℕ) × (s ≡ p ++ x ∷ rest) × Opens m p × Fault p x
+FailsAt m Fault s = (p rest : List ℕ) × (x : ℕ) × (s ≡ p ++ x ∷ rest) × IsOpening m p × Fault p x
 
 pub record ParityMeaning (m : Meaning) : Type 0 where
   pub codes : (s : List ℕ) (c : ℕ) → Codes (parity m) s c
       → (t : List ℕ) × InParity t s × Codes m t c
   pub coded_by : (s t : List ℕ) (c : ℕ) → InParity t s → Codes m t c → Codes (parity m) s c
-  pub opens : (s : List ℕ) → Opens (parity m) s → (t : List ℕ) × InParity t s × Opens m t
-  pub opened_by : (s t : List ℕ) → InParity t s → Opens m t → Opens (parity m) s
+  pub opens : (s : List ℕ) → IsOpening (parity m) s → (t : List ℕ) × InParity t s × IsOpening m t
+  pub opened_by : (s t : List ℕ) → InParity t s → IsOpening m t → IsOpening (parity m) s
   -- a byte with an odd number of ones, after an opening
-  pub cause_34 : (p rest : List ℕ) (x : ℕ) → Opens (parity m) p → count_ones x % 2 ≡ 1
+  pub cause_34 : (p rest : List ℕ) (x : ℕ) → IsOpening (parity m) p → count_ones x % 2 ≡ 1
       → (parity m).causes (p ++ x ∷ rest) ≡ own 34
   pub cause_below : (s t rest : List ℕ) → length s ≤ 4 → Unreadable m t → InParity t s
       → (parity m).causes (s ++ rest) ≡ up (m.causes t)
@@ -58,14 +58,14 @@ pub record ShiftMeaning (m : Meaning) : Type 0 where
       → (t : List ℕ) × Shifts t s × Codes m t c × (length s ≤ 4)
   pub coded_by : (s t : List ℕ) (c : ℕ) → Shifts t s → Codes m t c → length s ≤ 4
       → Codes (shift m) s c
-  pub opens : (s : List ℕ) → Opens (shift m) s
-      → (length s ≤ 3) × ((t : List ℕ) × Opens m t × BeginsShifted t s)
-  pub opened_by : (s t : List ℕ) → length s ≤ 3 → Opens m t → BeginsShifted t s → Opens (shift m) s
+  pub opens : (s : List ℕ) → IsOpening (shift m) s
+      → (length s ≤ 3) × ((t : List ℕ) × IsOpening m t × BeginsShifted t s)
+  pub opened_by : (s t : List ℕ) → length s ≤ 3 → IsOpening m t → BeginsShifted t s → IsOpening (shift m) s
   -- a byte that cannot go on after an opening
-  pub cause_35 : (p rest : List ℕ) (x : ℕ) → Opens (shift m) p → CannotFollow p x
+  pub cause_35 : (p rest : List ℕ) (x : ℕ) → IsOpening (shift m) p → CannotFollow p x
       → (shift m).causes (p ++ x ∷ rest) ≡ own 35
   -- open after four bytes
-  pub cause_36 : (s t rest : List ℕ) → length s ≡ 4 → Opens m t → BeginsShifted t s
+  pub cause_36 : (s t rest : List ℕ) → length s ≡ 4 → IsOpening m t → BeginsShifted t s
       → (shift m).causes (s ++ rest) ≡ own 36
   -- a cause from below
   pub cause_below : (s t rest : List ℕ) → length s ≤ 4 → Unreadable m t → Shifts t s
@@ -74,7 +74,7 @@ pub record ShiftMeaning (m : Meaning) : Type 0 where
   pub causes_only : (s : List ℕ) → Unreadable (shift m) s
       → FailsAt (shift m)
       (λ p x. CannotFollow p x
-      ⊎ (((length p ≡ 3) × (t : List ℕ) × Opens m t × BeginsShifted t (p ++ x ∷ []))
+      ⊎ (((length p ≡ 3) × (t : List ℕ) × IsOpening m t × BeginsShifted t (p ++ x ∷ []))
       ⊎ ((t : List ℕ) × Shifts t (p ++ x ∷ []) × Unreadable m t))) s
 
 pub record SubMeaning (ds : List ℕ) (m : Meaning) : Type 0 where

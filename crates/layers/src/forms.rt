@@ -4,7 +4,7 @@ ghost use Rattle.layers.specs.Layers.{even, parity_bytes, shift_bytes};
 ghost use Rattle.layers.specs.LayersKeep.{parity_agrees, shift_agrees};
 
 use crate::cause::Cause;
-use crate::recoding::{ByteForm, Form, Move};
+use crate::recoding::{ByteForm, WrittenByte, Move};
 use charset::SetRefusal;
 
 // Seven bits, and an eighth that makes the number of ones even.
@@ -30,11 +30,11 @@ impl ByteForm for EvenParity {
         }
     }
 
-    fn form(&self, byte: u8) -> Option<Form> {
+    fn form(&self, byte: u8) -> Option<WrittenByte> {
         match byte {
             0x80..=0xFF => None,
-            _ if is_even(byte) => Some(Form::One(byte)),
-            _ => Some(Form::One(byte + 128)),
+            _ if is_even(byte) => Some(WrittenByte::One(byte)),
+            _ => Some(WrittenByte::One(byte + 128)),
         }
     }
 
@@ -61,11 +61,11 @@ impl ByteForm for SingleShift {
         }
     }
 
-    fn form(&self, byte: u8) -> Option<Form> {
+    fn form(&self, byte: u8) -> Option<WrittenByte> {
         match byte {
             0x19 | 0x80..=0x9F => None,
-            0xA0..=0xFF => Some(Form::Two(0x19, byte - 0x80)),
-            _ => Some(Form::One(byte)),
+            0xA0..=0xFF => Some(WrittenByte::Two(0x19, byte - 0x80)),
+            _ => Some(WrittenByte::One(byte)),
         }
     }
 

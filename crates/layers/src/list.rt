@@ -2,7 +2,7 @@
 ghost use Rattle.std.specs.Prelude.{◌≡◌, ◌<◌, length, IfOk, MatchOption, MatchResult};
 ghost use Rattle.layers.specs.declared.list.ListRefusal.TheVariants.{NoMemory};
 ghost use Rattle.layers.specs.CharacterList.{required, on_list, rises_at, Rising, Complete, Sound};
-ghost use Rattle.layers.specs.Refusals.{told};
+ghost use Rattle.layers.specs.Refusals.{list_told};
 ghost use Rattle.layers.specs.Filled.{FirstNotRising, FirstMissing, FirstUncoded, AllCoded};
 ghost use Rattle.layers.specs.Filled.{Acceptable, Ground, Filled, OneAnswer};
 
@@ -48,7 +48,7 @@ impl ListRefusal {
     // The number that a refusal is told by. No `From`: the value that comes with it would be lost
     // without a word.
     pub fn number(&self) -> u8
-        ensures { result ≡ (told self.now).number }
+        ensures { result ≡ (list_told self.now).number }
     {
         match self {
             ListRefusal::TooMany => 10,
@@ -121,7 +121,7 @@ impl CharacterList {
 
 // Whether numbers make a list, whatever memory there is, or why not.
 fn check<S: CharacterSet>(numbers: &[u32], set: &S) -> Result<(), ListRefusal>
-    ensures { MatchResult result (λ _. Acceptable (S.CharacterSet.codings set.now) numbers.now) (λ why. Ground (S.CharacterSet.codings set.now) numbers.now (told why)) }
+    ensures { MatchResult result (λ _. Acceptable (S.CharacterSet.codings set.now) numbers.now) (λ why. Ground (S.CharacterSet.codings set.now) numbers.now (list_told why)) }
 {
     if numbers.len() > MOST_CHARACTERS {
         return Err(ListRefusal::TooMany);

@@ -7,7 +7,7 @@ ghost use Rattle.layers.specs.Recode.{recoded_laws};
 
 use crate::cause::Cause;
 use crate::deeper::from_below;
-use crate::recoding::{ByteForm, Form, Move};
+use crate::recoding::{ByteForm, WrittenByte, Move};
 use charset::{CharacterSet, Coding, Front, Reading, SetRefusal};
 
 mod scan;
@@ -49,12 +49,12 @@ fn scan_front<F: ByteForm>(form: &F, string: &[u8]) -> Scan
     }
 }
 
-fn form_size(form: Option<Form>) -> usize
+fn form_size(form: Option<WrittenByte>) -> usize
     ensures { result ≡ form_size form }
 {
     match form {
-        Some(Form::One(_)) => 1,
-        Some(Form::Two(_, _)) => 2,
+        Some(WrittenByte::One(_)) => 1,
+        Some(WrittenByte::Two(_, _)) => 2,
         None => 0,
     }
 }
@@ -68,12 +68,12 @@ fn written_size<F: ByteForm>(form: &F, string: &[u8]) -> usize
 }
 
 // A byte below behind, as it is written here.
-fn append(front: Front, form: Form) -> Option<Front>
+fn append(front: Front, form: WrittenByte) -> Option<Front>
     ensures { result ≡ extended front form }
 {
     match form {
-        Form::One(byte) => front.then(byte),
-        Form::Two(first, second) => front.then(first)?.then(second),
+        WrittenByte::One(byte) => front.then(byte),
+        WrittenByte::Two(first, second) => front.then(first)?.then(second),
     }
 }
 

@@ -7,7 +7,7 @@ use charset::SetRefusal;
 
 pub mod moves;
 
-pub use moves::{Form, Move};
+pub use moves::{WrittenByte, Move};
 
 pub trait ByteForm {
     ghost recoding: { Self → Recoding };
@@ -18,7 +18,7 @@ pub trait ByteForm {
         ensures { result ≡ (recoding self.now).step held byte };
 
     // How a byte below is written, if it can be.
-    fn form(&self, byte: u8) -> Option<Form>
+    fn form(&self, byte: u8) -> Option<WrittenByte>
         ensures { result ≡ (recoding self.now).form byte };
 
     // The refusal of a byte that cannot stand where it does.

@@ -2,15 +2,14 @@
 // TARGET`.
 #![tactic(auto)]
 
-use answers::{FaultAt, Told};
 use anyhow::{Context, anyhow, bail};
 use charset::SetRefusal;
 use conversion::Fault;
-use form_sets::FormSet;
-use pages::Form;
+use forms::FormSet;
+use roll::Form;
 use std::env;
 use std::io::{Read, Write};
-use transcription::transcribe;
+use transcript::{FaultAt, Told, transcribe};
 
 const USAGE: &str =
     "usage: recode SOURCE TARGET < TEXT > TEXT, each a form from 1 to 7 (docs/ROLLS.md lists them)";

@@ -1,10 +1,10 @@
 -- The line on how a page went.
 use Rattle.std.specs.Prelude.{ℕ, List, [], ◌∷◌, ◌++◌, Some, None, Ok, Err, codes, decimal, Option}
 use Rattle.std.specs.Prelude.{Result}
-use Rattle.pages.specs.declared.fault.RollFault.{RollFault}
-use Rattle.pages.specs.declared.page.Form.{Form}
-use Rattle.pages.specs.Forms.{form_number}
-use Rattle.pages.specs.Told.{told}
+use Rattle.roll.specs.declared.refusal.RollFault.{RollFault}
+use Rattle.roll.specs.declared.page.Form.{Form}
+use Rattle.roll.specs.Forms.{form_number}
+use Rattle.roll.specs.Told.{told}
 
 -- the number of a page's form; a picture has 0
 abbrev pub form_told : Option Form → ℕ

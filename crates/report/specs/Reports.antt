@@ -1,16 +1,16 @@
 -- What is written of a roll.
 use Rattle.std.specs.Prelude.{◌≡◌, ℕ, zero, suc, ◌+◌, ◌<◌, ◌≤◌, ◌⊎◌, List, [], ◌∷◌, ◌++◌, length}
 use Rattle.std.specs.Prelude.{Ok, Err, decimal, Result}
-use Rattle.pages.specs.declared.fault.RollFault.{RollFault}
-use Rattle.pages.specs.declared.fault.RollFault.TheVariants.{WrongSize}
-use Rattle.pages.specs.declared.page.Page.{Page}
-use Rattle.pages.specs.Told.{told}
+use Rattle.roll.specs.declared.refusal.RollFault.{RollFault}
+use Rattle.roll.specs.declared.refusal.RollFault.TheVariants.{WrongSize}
+use Rattle.roll.specs.declared.page.Page.{Page}
+use Rattle.roll.specs.Told.{told}
 use Rattle.roll.specs.declared.roll.Roll.{Roll}
 use Rattle.roll.specs.Format.{page_count}
 use Rattle.roll.specs.Opened.{Refuses, Accepted}
 use Rattle.roll.specs.Rolls.{bytes_of}
 use Rattle.roll.specs.Pages.{PartAt}
-use Rattle.forms.specs.Texts.{page_form, IsPageText}
+use Rattle.report.specs.Texts.{page_form, IsPageText}
 use Rattle.report.specs.Lines.{block_of}
 
 -- the text of a page by its form, and its line, each with a line feed behind

@@ -1,2 +1,3 @@
 pub mod Chain
 pub mod Inside
+pub mod Built

@@ -1,6 +1,6 @@
 -- The pages of a roll, one after the other.
 use Rattle.std.specs.Prelude.{◌≡◌, ℕ, ◌+◌, ◌<◌, List, Option, MatchOption}
-use Rattle.pages.specs.declared.page.Page.{Page}
+use Rattle.roll.specs.declared.page.Page.{Page}
 use Rattle.roll.specs.declared.each_page.Pages.{Pages}
 use Rattle.roll.specs.Format.{page_count}
 use Rattle.roll.specs.Pages.{PartAt}

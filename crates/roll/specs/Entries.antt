@@ -1,7 +1,7 @@
 -- What an entry of the index tells.
 use Rattle.std.specs.Prelude.{◌≡◌, ℕ, ◌+◌, true, false, List, Result, MatchResult}
-use Rattle.pages.specs.declared.fault.RollFault.{RollFault}
-use Rattle.pages.specs.declared.fault.RollFault.TheVariants.{BadEntry}
+use Rattle.roll.specs.declared.refusal.RollFault.{RollFault}
+use Rattle.roll.specs.declared.refusal.RollFault.TheVariants.{BadEntry}
 use Rattle.roll.specs.declared.index.Entry.{Entry}
 use Rattle.roll.specs.Format.{offset, size, form, padded, starts, entry_holds}
 

@@ -1,6 +1,11 @@
+pub mod Forms
+pub mod Told
 pub mod Format
 pub mod Entries
 pub mod Opened
 pub mod Pages
 pub mod Rolls
 pub mod EachPage
+pub mod Built
+pub mod Messages
+pub mod Packed

@@ -1,9 +1,9 @@
 -- What opening a roll answers.
 use Rattle.std.specs.Prelude.{◌≡◌, ℕ, zero, suc, ◌<◌, true, false, List, take, Ok, Err, Result, ◌≢◌}
-use Rattle.pages.specs.declared.fault.RollFault.{RollFault}
-use Rattle.pages.specs.declared.fault.RollFault.TheVariants.{WrongSize, NoMark, WrongIndex}
-use Rattle.pages.specs.declared.fault.RollFault.TheVariants.{BadEntry, WrongTotal, NoSuchPage}
-use Rattle.pages.specs.declared.fault.RollFault.TheVariants.{Faulted}
+use Rattle.roll.specs.declared.refusal.RollFault.{RollFault}
+use Rattle.roll.specs.declared.refusal.RollFault.TheVariants.{WrongSize, NoMark, WrongIndex}
+use Rattle.roll.specs.declared.refusal.RollFault.TheVariants.{BadEntry, WrongTotal, NoSuchPage}
+use Rattle.roll.specs.declared.refusal.RollFault.TheVariants.{Faulted}
 use Rattle.roll.specs.Format.{index_offset, page_count, entry_holds, sizes, Sized, Marked, Indexed}
 use Rattle.roll.specs.Format.{NoPagesNoBytes, Entries, Totalled, joined}
 

@@ -1,12 +1,12 @@
 -- Which part of a roll a page is.
 use Rattle.std.specs.Prelude.{◌≡◌, ℕ, ◌-◌, ◌<◌, ◌≤◌, ◌⊎◌, List, Ok, Err, Result}
-use Rattle.pages.specs.declared.fault.RollFault.{RollFault}
-use Rattle.pages.specs.declared.fault.RollFault.TheVariants.{WrongSize, NoMark, WrongIndex}
-use Rattle.pages.specs.declared.fault.RollFault.TheVariants.{BadEntry, WrongTotal, NoSuchPage}
-use Rattle.pages.specs.declared.fault.RollFault.TheVariants.{Faulted}
-use Rattle.pages.specs.declared.page.Page.{Page}
-use Rattle.pages.specs.declared.page.Page.TheVariants.{Text, Picture}
-use Rattle.pages.specs.Forms.{form_number}
+use Rattle.roll.specs.declared.refusal.RollFault.{RollFault}
+use Rattle.roll.specs.declared.refusal.RollFault.TheVariants.{WrongSize, NoMark, WrongIndex}
+use Rattle.roll.specs.declared.refusal.RollFault.TheVariants.{BadEntry, WrongTotal, NoSuchPage}
+use Rattle.roll.specs.declared.refusal.RollFault.TheVariants.{Faulted}
+use Rattle.roll.specs.declared.page.Page.{Page}
+use Rattle.roll.specs.declared.page.Page.TheVariants.{Text, Picture}
+use Rattle.roll.specs.Forms.{form_number}
 use Rattle.roll.specs.Format.{page_count, offset, form, page_bytes}
 
 -- the page is the part of the roll that its entry, the k-th from 0, tells, with its offset

@@ -4,8 +4,8 @@ ghost use Rattle.std.specs.Iterator.{at_most};
 ghost use Rattle.roll.specs.Format.{page_count};
 ghost use Rattle.roll.specs.Rolls.{bytes_of};
 
+use crate::page::Page;
 use crate::roll::Roll;
-use pages::Page;
 
 // A roll, and how many of its pages have come.
 #[derive(Clone, Copy)]

@@ -2,7 +2,7 @@
 #![tactic(auto)]
 
 use anyhow::{Context, bail};
-use packing::Builder;
+use roll::Builder;
 use std::io::Write;
 use std::{env, fs};
 

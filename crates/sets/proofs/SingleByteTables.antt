@@ -1,5 +1,4 @@
--- The upper halves are one to one, by a test over the whole of each that antt computes. Assumes
--- nothing.
+-- The upper halves are one to one, by a test over the whole of each that antt computes.
 use Rattle.std.proofs.Common.{◌≡◌, true, refl}
 use Rattle.sets.specs.Search.{first_from}
 use Rattle.sets.specs.Columns.{one_to_one}

@@ -1,5 +1,4 @@
--- A set of single bytes keeps the laws of a character set, and what it cannot read. Assumes
--- nothing.
+-- A set of single bytes keeps the laws of a character set, and what it cannot read.
 use Rattle.std.specs.Prelude.{◌≡◌, ℕ, zero, suc, ◌<◌, ◌≤◌, true, List, [], ◌∷◌, length, take, Some}
 use Rattle.std.specs.Prelude.{None, Option, slice_index, refl}
 use Rattle.std.proofs.Common.{sym, ap, ◌∙◌, arith}

@@ -2,7 +2,7 @@
 use Rattle.std.specs.Prelude.{ℕ, ◌+◌, ◌-◌, ◌*◌, ◌/◌, ◌%◌, ◌<◌, Bool, true, false, cond, ◌&&◌, List}
 use Rattle.std.specs.Prelude.{[], ◌∷◌, ◌++◌, length, Some, None, Option, ◌==◌, nat_le, nat_lt}
 use Rattle.charset.specs.declared.SetRefusal.{SetRefusal}
-use Rattle.charset.specs.Meaning.{Codings, Meaning, meaning, Codes, Opens}
+use Rattle.charset.specs.Meaning.{Codings, Meaning, meaning, Codes, IsOpening}
 use Rattle.sets.specs.declared.cause.Cause.TheVariants.{Malformed}
 use Rattle.sets.specs.Causes.{refusal}
 use Rattle.sets.specs.Search.{when}
@@ -84,4 +84,4 @@ utf8 = meaning utf8_codings utf8_openings utf8_causes
 -- every opening is a proper beginning of a coding
 abbrev pub OpeningsBeginCodings : Type 0
 OpeningsBeginCodings =
-    (s : List ℕ) → Opens utf8 s → (t : List ℕ) × (c : ℕ) × (0 < length t) × Codes utf8 (s ++ t) c
+    (s : List ℕ) → IsOpening utf8 s → (t : List ℕ) × (c : ℕ) × (0 < length t) × Codes utf8 (s ++ t) c

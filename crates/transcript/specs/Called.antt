@@ -3,10 +3,10 @@ use Rattle.std.specs.Prelude.{◌≡◌, ℕ, ◌⊎◌, List, [], Ok, Err, Resu
 use Rattle.std.proofs.Common.{inl, inr}
 use Rattle.std.specs.Borrow.{Bor, MutBor}
 use Rattle.charset.specs.Meaning.{Meaning}
-use Rattle.answers.specs.declared.Answer.{Answer}
-use Rattle.answers.specs.declared.Answer.TheVariants as answer
-use Rattle.answers.specs.declared.Refusal.{Refusal}
-use Rattle.answers.specs.declared.Status.{Status}
+use Rattle.transcript.specs.declared.answers.Answer.{Answer}
+use Rattle.transcript.specs.declared.answers.Answer.TheVariants as answer
+use Rattle.transcript.specs.declared.answers.Refusal.{Refusal}
+use Rattle.transcript.specs.declared.answers.Status.{Status}
 use Rattle.transcript.specs.declared.calls.Call.{Call}
 use Rattle.transcript.specs.declared.calls.Call.TheVariants as call
 use Rattle.transcript.specs.Calls.{Snapshot, OfferAnswer, CloseAnswer}

@@ -6,13 +6,13 @@ use Rattle.conversion.specs.declared.Fault.{Fault}
 use Rattle.conversion.specs.declared.Fault.TheVariants.{Unfinished}
 use Rattle.conversion.specs.declared.Pause.TheVariants as pause
 use Rattle.conversion.specs.Stops.{End, Reaches}
-use Rattle.answers.specs.declared.Done.{Done}
-use Rattle.answers.specs.declared.FaultAt.{FaultAt}
-use Rattle.answers.specs.declared.State.{State}
-use Rattle.answers.specs.declared.State.TheVariants.{Open, Faulted, Closed}
-use Rattle.answers.specs.declared.Status.{Status}
-use Rattle.answers.specs.declared.Refusal.{Refusal}
-use Rattle.answers.specs.declared.Refusal.TheVariants as refusal
+use Rattle.transcript.specs.declared.answers.Done.{Done}
+use Rattle.transcript.specs.declared.answers.FaultAt.{FaultAt}
+use Rattle.transcript.specs.declared.answers.State.{State}
+use Rattle.transcript.specs.declared.answers.State.TheVariants.{Open, Faulted, Closed}
+use Rattle.transcript.specs.declared.answers.Status.{Status}
+use Rattle.transcript.specs.declared.answers.Refusal.{Refusal}
+use Rattle.transcript.specs.declared.answers.Refusal.TheVariants as refusal
 
 -- a transcript without its sets: its state, what it has counted since the start, and the bytes it
 -- holds

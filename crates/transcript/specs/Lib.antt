@@ -1,4 +1,9 @@
+pub mod Told
 pub mod Calls
 pub mod Snapshots
 pub mod Uses
 pub mod Called
+pub mod Law
+pub mod Stacks
+pub mod Carried
+pub mod Failures

@@ -3,8 +3,8 @@ use Rattle.std.specs.Prelude.{◌≡◌, ℕ, zero, suc, ◌+◌, ◌*◌, ◌�
 use Rattle.std.specs.Prelude.{None, Option, Ok, Err, Result}
 use Rattle.conversion.specs.declared.Pause.TheVariants as pause
 use Rattle.conversion.specs.declared.Run.{Run}
-use Rattle.answers.specs.declared.Refusal.{Refusal}
-use Rattle.answers.specs.declared.Status.{Status}
+use Rattle.transcript.specs.declared.answers.Refusal.{Refusal}
+use Rattle.transcript.specs.declared.answers.Status.{Status}
 use Rattle.transcript.specs.declared.progress.Progress.{Progress}
 use Rattle.transcript.specs.Calls.{Snapshot, OfferAnswer, limits, takes, holds, answers}
 use Rattle.transcript.specs.Calls.{state_after, offset_of}

@@ -1,9 +1,9 @@
 -- A use of a transcript: calls in any order and number, the newest first.
 use Rattle.std.specs.Prelude.{◌≡◌, ℕ, List, [], ◌∷◌, ◌++◌, take, Ok, Err}
 use Rattle.charset.specs.Meaning.{Meaning}
-use Rattle.answers.specs.declared.Status.{Status}
-use Rattle.answers.specs.declared.Refusal.TheVariants.{SectorTooLong, OutputTooLong, SourceTooLong}
-use Rattle.answers.specs.declared.Refusal.TheVariants.{Standing, AlreadyClosed, Faulted, Full}
+use Rattle.transcript.specs.declared.answers.Status.{Status}
+use Rattle.transcript.specs.declared.answers.Refusal.TheVariants.{SectorTooLong, OutputTooLong, SourceTooLong}
+use Rattle.transcript.specs.declared.answers.Refusal.TheVariants.{Standing, AlreadyClosed, Faulted, Full}
 use Rattle.transcript.specs.Calls.{Snapshot, fresh, OfferAnswer, CloseAnswer, Offered, ClosedOn}
 use Rattle.transcript.specs.Calls.{status_of}
 

@@ -7,7 +7,7 @@ ghost use Rattle.transcript.specs.Uses.{start, offer, close, Step};
 ghost use Rattle.transcript.specs.Called.{Called};
 
 use crate::progress::Progress;
-use answers::{Answer, Done, Refusal, State, Status};
+use crate::answers::{Answer, Done, Refusal, State, Status};
 use charset::CharacterSet;
 use conversion::Converter;
 
@@ -33,7 +33,7 @@ pub enum Call<'a> {
 impl<S: CharacterSet, T: CharacterSet> Transcript<S, T> {
     // A transcript that is started.
     pub fn new(source: S, target: T) -> Transcript<S, T>
-        ensures sets { (result.converter.sets.source ≡ source) × (result.converter.sets.target ≡ target) }
+        ensures same_sets { (result.converter.sets.source ≡ source) × (result.converter.sets.target ≡ target) }
         ensures starts { snapshot result.progress ≡ fresh }
     {
         Transcript {
@@ -44,8 +44,8 @@ impl<S: CharacterSet, T: CharacterSet> Transcript<S, T> {
 
     // The work of an offer to an open transcript.
     fn feed(&mut self, sector: &[u8], output: &mut [u8]) -> Result<Done, Refusal>
-        ensures sets { (self.new.converter.sets.source ≡ self.old.converter.sets.source) × (self.new.converter.sets.target ≡ self.old.converter.sets.target) }
-        ensures told { OfferedIf (limits self.old.progress.taken sector.now output.old) (set_of S.CharacterSet self.old.converter.sets.source) (set_of T.CharacterSet self.old.converter.sets.target) (snapshot self.old.progress) sector.now output.old result output.new (snapshot self.new.progress) }
+        ensures same_sets { (self.new.converter.sets.source ≡ self.old.converter.sets.source) × (self.new.converter.sets.target ≡ self.old.converter.sets.target) }
+        ensures steps { OfferedIf (limits self.old.progress.taken sector.now output.old) (set_of S.CharacterSet self.old.converter.sets.source) (set_of T.CharacterSet self.old.converter.sets.target) (snapshot self.old.progress) sector.now output.old result output.new (snapshot self.new.progress) }
     {
         self.progress.within_limits(sector, output)?;
         let run = self.converter.convert(self.progress.held, sector, output);
@@ -54,8 +54,8 @@ impl<S: CharacterSet, T: CharacterSet> Transcript<S, T> {
 
     // One call, by the state of the transcript: one match shows for each state what each call does.
     pub fn call(&mut self, call: Call) -> Result<Answer, Refusal>
-        ensures sets { (self.new.converter.sets.source ≡ self.old.converter.sets.source) × (self.new.converter.sets.target ≡ self.old.converter.sets.target) }
-        ensures told { Called (set_of S.CharacterSet self.old.converter.sets.source) (set_of T.CharacterSet self.old.converter.sets.target) (snapshot self.old.progress) call.entry (snapshot self.new.progress) call.exit result }
+        ensures same_sets { (self.new.converter.sets.source ≡ self.old.converter.sets.source) × (self.new.converter.sets.target ≡ self.old.converter.sets.target) }
+        ensures steps { Called (set_of S.CharacterSet self.old.converter.sets.source) (set_of T.CharacterSet self.old.converter.sets.target) (snapshot self.old.progress) call.entry (snapshot self.new.progress) call.exit result }
     {
         match (self.progress.state, call) {
             (_, Call::Start) => {
@@ -79,8 +79,8 @@ impl<S: CharacterSet, T: CharacterSet> Transcript<S, T> {
 
     // Starts again, and forgets all before.
     pub fn start(&mut self)
-        ensures sets { (self.new.converter.sets.source ≡ self.old.converter.sets.source) × (self.new.converter.sets.target ≡ self.old.converter.sets.target) }
-        ensures told { Step (set_of S.CharacterSet self.old.converter.sets.source) (set_of T.CharacterSet self.old.converter.sets.target) (snapshot self.old.progress) start (snapshot self.new.progress) }
+        ensures same_sets { (self.new.converter.sets.source ≡ self.old.converter.sets.source) × (self.new.converter.sets.target ≡ self.old.converter.sets.target) }
+        ensures steps { Step (set_of S.CharacterSet self.old.converter.sets.source) (set_of T.CharacterSet self.old.converter.sets.target) (snapshot self.old.progress) start (snapshot self.new.progress) }
     {
         let _ = self.call(Call::Start);
     }
@@ -88,8 +88,8 @@ impl<S: CharacterSet, T: CharacterSet> Transcript<S, T> {
     // Reads the held bytes and then the sector from the front, and writes each character behind the
     // one before.
     pub fn offer(&mut self, sector: &[u8], output: &mut [u8]) -> Result<Done, Refusal>
-        ensures sets { (self.new.converter.sets.source ≡ self.old.converter.sets.source) × (self.new.converter.sets.target ≡ self.old.converter.sets.target) }
-        ensures told { Step (set_of S.CharacterSet self.old.converter.sets.source) (set_of T.CharacterSet self.old.converter.sets.target) (snapshot self.old.progress) (offer sector.now output.old result output.new) (snapshot self.new.progress) }
+        ensures same_sets { (self.new.converter.sets.source ≡ self.old.converter.sets.source) × (self.new.converter.sets.target ≡ self.old.converter.sets.target) }
+        ensures steps { Step (set_of S.CharacterSet self.old.converter.sets.source) (set_of T.CharacterSet self.old.converter.sets.target) (snapshot self.old.progress) (offer sector.now output.old result output.new) (snapshot self.new.progress) }
     {
         let Answer::Offered(done) = self.call(Call::Offer { sector, output })? else {
             unreachable!()
@@ -99,8 +99,8 @@ impl<S: CharacterSet, T: CharacterSet> Transcript<S, T> {
 
     // Closes, unless bytes are held.
     pub fn close(&mut self) -> Result<(), Refusal>
-        ensures sets { (self.new.converter.sets.source ≡ self.old.converter.sets.source) × (self.new.converter.sets.target ≡ self.old.converter.sets.target) }
-        ensures told { Step (set_of S.CharacterSet self.old.converter.sets.source) (set_of T.CharacterSet self.old.converter.sets.target) (snapshot self.old.progress) (close result) (snapshot self.new.progress) }
+        ensures same_sets { (self.new.converter.sets.source ≡ self.old.converter.sets.source) × (self.new.converter.sets.target ≡ self.old.converter.sets.target) }
+        ensures steps { Step (set_of S.CharacterSet self.old.converter.sets.source) (set_of T.CharacterSet self.old.converter.sets.target) (snapshot self.old.progress) (close result) (snapshot self.new.progress) }
     {
         self.call(Call::Close)?;
         Ok(())

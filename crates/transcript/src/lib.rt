@@ -1,13 +1,17 @@
-// A transcript: text from one character set into another, sector by sector, with what it answers
-// and what it counts.
+// A transcript: text from one character set into another, sector by sector, with what it answers and
+// what it counts; and a whole text by the use of one.
 #![tactic(auto)]
 
+mod answers;
 mod calls;
 mod progress;
 mod resume;
+mod transcription;
 
+pub use answers::{Answer, Done, FaultAt, Refusal, State, Status, Told, fault_number};
 pub use calls::{Call, Transcript};
 pub use progress::Progress;
+pub use transcription::{Failure, Transcription, transcribe};
 
 // How many bytes a sector, an output and a whole source may have.
 pub const LONGEST_SECTOR: usize = 4096;

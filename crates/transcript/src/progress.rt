@@ -3,7 +3,7 @@
 ghost use Rattle.std.specs.Prelude.{◌+◌, ◌*◌, ◌≤◌, length};
 
 use crate::{LONGEST_OUTPUT, LONGEST_SECTOR, LONGEST_SOURCE};
-use answers::{Done, FaultAt, Refusal, State, Status};
+use crate::answers::{Done, FaultAt, Refusal, State, Status};
 use charset::Front;
 use conversion::{Fault, Pause, Run};
 
@@ -23,7 +23,7 @@ pub struct Progress {
 
 impl Progress {
     ghost use Rattle.std.specs.Prelude.{◌≡◌};
-    ghost use Rattle.answers.specs.declared.State.TheVariants.{Open};
+    ghost use Rattle.transcript.specs.declared.answers.State.TheVariants.{Open};
     ghost use Rattle.transcript.specs.Calls.{fresh, status_of, ClosedOn};
     ghost use Rattle.transcript.specs.Snapshots.{snapshot, kept_after, Limits, Possible, Settles};
 

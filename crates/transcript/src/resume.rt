@@ -5,7 +5,7 @@ ghost use Rattle.transcript.specs.Snapshots.{snapshot, Restored};
 use crate::LONGEST_SOURCE;
 use crate::calls::Transcript;
 use crate::progress::Progress;
-use answers::Status;
+use crate::answers::Status;
 use charset::{CharacterSet, Front};
 use conversion::Converter;
 
@@ -54,7 +54,7 @@ impl Progress {
 impl<S: CharacterSet, T: CharacterSet> Transcript<S, T> {
     // A transcript that goes on from where one came to.
     pub fn resume(source: S, target: T, progress: Progress) -> Transcript<S, T>
-        ensures sets { (result.converter.sets.source ≡ source) × (result.converter.sets.target ≡ target) }
+        ensures same_sets { (result.converter.sets.source ≡ source) × (result.converter.sets.target ≡ target) }
         ensures resumes { snapshot result.progress ≡ snapshot progress }
     {
         Transcript {

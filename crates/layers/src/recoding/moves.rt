@@ -9,7 +9,7 @@ pub enum Move {
 
 // How a byte below is written.
 #[derive(Clone, Copy, PartialEq, Eq, Debug)]
-pub enum Form {
+pub enum WrittenByte {
     One(u8),
     Two(u8, u8),
 }

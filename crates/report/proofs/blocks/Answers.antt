@@ -1,5 +1,5 @@
 use Rattle.std.proofs.Common.{◌≡◌, ℕ, ◌+◌, List, ◌++◌, vec_items, sym, ◌∙◌, subst, add-one, rules}
-use Rattle.pages.specs.declared.page.Page.{Page}
+use Rattle.roll.specs.declared.page.Page.{Page}
 use Rattle.roll.specs.Pages.{PartAt}
 use Rattle.roll.specs.Rolls.{bytes_of}
 use Rattle.report.specs.Reports.{PageBlock, PagesWritten}

@@ -3,14 +3,14 @@ use Rattle.charset.specs.Sets.{set_of}
 use Rattle.charset.specs.Meaning.{Meaning, Laws}
 use Rattle.conversion.specs.Next.{ComesNext}
 use Rattle.conversion.specs.Plain.{plain}
-use Rattle.conversion.proofs.PlainBytes.{told, told_plain}
+use Rattle.conversion.proofs.PlainBytes.{plain_of, plain_of_next}
 use Rattle.conversion.proofs.two_sets.plain_byte.Goals as goal
 
 -- where x is what was found
 found : {S : Meaning} (T : Meaning) → Laws S
     → (b : ℕ) (y : Option (List ℕ × ℕ)) {x : Option (List ℕ × ℕ)} → x ≡ y
-    → ComesNext S T (b ∷ []) (Ok x) → told (Ok y) ≡ plain S T b
-found {S} T l b y e h = told_plain T l b (Ok y) (subst (λ x. ComesNext S T (b ∷ []) (Ok x)) e h)
+    → ComesNext S T (b ∷ []) (Ok x) → plain_of (Ok y) ≡ plain S T b
+found {S} T l b y e h = plain_of_next T l b (Ok y) (subst (λ x. ComesNext S T (b ∷ []) (Ok x)) e h)
 
 pub returns-in_err-coding-in-Ok : goal.returns-in_err-coding-in-Ok
 returns-in_err-coding-in-Ok g c =
@@ -26,6 +26,6 @@ returns-in_ok-coding-in-Ok g c =
 
 pub returns-in-Err : goal.returns-in-Err
 returns-in-Err g c =
-    told_plain (set_of g.T.CharacterSet c.args.target.now)
+    plain_of_next (set_of g.T.CharacterSet c.args.target.now)
     (g.met.S.CharacterSet.lawful c.args.source.now) c.args.byte (Err c.in-Err.field-0)
     c.in-Err.ensures

@@ -2,21 +2,21 @@ use Rattle.std.proofs.Common.{◌≡◌, ℕ, ◌-◌, ◌≤◌, List, ◌++◌
 use Rattle.charset.specs.Meaning.{Meaning, Laws}
 use Rattle.charset.specs.Sets.{set_of}
 use Rattle.conversion.specs.declared.Fault.{Fault}
-use Rattle.conversion.specs.declared.Step.{Step}
-use Rattle.conversion.specs.Steps.{Steps}
+use Rattle.conversion.specs.declared.Advance.{Advance}
+use Rattle.conversion.specs.Advances.{Advances}
 use Rattle.conversion.proofs.Windows.{behind, steps_four}
 use Rattle.conversion.proofs.two_sets.TwoSets.one_at.Goals as goal
 
 among : (S T : Meaning) → Laws S → (held sector view out out' : List ℕ) (at : ℕ)
-    (r : Result Step Fault) → view ≡ take 4 (drop at (held ++ sector)) → Steps S T view out out' r
-    → Steps S T (drop at (held ++ sector)) out out' r
+    (r : Result Advance Fault) → view ≡ take 4 (drop at (held ++ sector)) → Advances S T view out out' r
+    → Advances S T (drop at (held ++ sector)) out out' r
 among S T l held sector view out out' at r v st =
     steps_four T l (drop at (held ++ sector)) out out' r (rw v at st)
 
-after : (S T : Meaning) (held bytes sector out out' : List ℕ) (at : ℕ) (r : Result Step Fault)
+after : (S T : Meaning) (held bytes sector out out' : List ℕ) (at : ℕ) (r : Result Advance Fault)
     → bytes ≡ held → length bytes ≤ at
-    → Steps S T (take (length sector - (at - length bytes)) (drop (at - length bytes) sector)) out
-    out' r → Steps S T (drop at (held ++ sector)) out out' r
+    → Advances S T (take (length sector - (at - length bytes)) (drop (at - length bytes) sector)) out
+    out' r → Advances S T (drop at (held ++ sector)) out out' r
 after S T held bytes sector out out' at r b h st =
     let seen : take (length sector - (at - length bytes)) (drop (at - length bytes) sector) ≡ drop
     at (held ++ sector) = rw b (behind held sector at (rw b at h)) in

@@ -4,10 +4,10 @@ use mathlib.Core.Path.{subst₃}
 use borrow.Rule.Slice.PartMut.{put_mid}
 use Rattle.charset.specs.Meaning.{Meaning, Laws}
 use Rattle.conversion.specs.declared.Fault.{Fault}
-use Rattle.conversion.specs.declared.Step.{Step}
-use Rattle.conversion.specs.declared.Step.TheVariants.{Written, Paused}
+use Rattle.conversion.specs.declared.Advance.{Advance}
+use Rattle.conversion.specs.declared.Advance.TheVariants.{Written, Paused}
 use Rattle.conversion.specs.declared.Pause.{Pause}
-use Rattle.conversion.specs.Steps.{Steps}
+use Rattle.conversion.specs.Advances.{Advances}
 use Rattle.conversion.specs.Runs.{Far, Runs}
 use Rattle.conversion.proofs.Turns.{far_join, far_more, far_ends}
 use Rattle.conversion.proofs.two_sets.TwoSets.run.Goals as goal
@@ -36,22 +36,22 @@ module _ {S T : Meaning} (l : Laws S) (held sector out o : List ℕ) {count at p
 
 module _ {S T : Meaning} (l : Laws S) (held sector out o last : List ℕ) {count at put : ℕ}
     (far : Far S T (held ++ sector) out o count at put) where
-  more : (n k : ℕ) {x : Step} → x ≡ Written n k
-      → Steps S T (drop at (held ++ sector)) (part put o) last (Ok x)
+  more : (n k : ℕ) {x : Advance} → x ≡ Written n k
+      → Advances S T (drop at (held ++ sector)) (part put o) last (Ok x)
       → Far S T (held ++ sector) out (after put o last) (count + 1) (at + n) (put + k)
   more n k e s =
       far_more S T l (held ++ sector) out o count at put far _ last n k
-      (subst (λ z. Steps S T (drop at (held ++ sector)) (part put o) last (Ok z)) e s) refl
+      (subst (λ z. Advances S T (drop at (held ++ sector)) (part put o) last (Ok z)) e s) refl
 
-  ends : (p : Pause) {x : Step} → x ≡ Paused p
-      → Steps S T (drop at (held ++ sector)) (part put o) last (Ok x)
+  ends : (p : Pause) {x : Advance} → x ≡ Paused p
+      → Advances S T (drop at (held ++ sector)) (part put o) last (Ok x)
       → Runs S T (held ++ sector) out (after put o last)
       (record { characters = count; read = at; written = put; end = Ok p })
   ends p e s =
-      let w = subst (λ z. Steps S T (drop at (held ++ sector)) (part put o) last (Ok z)) e s in
+      let w = subst (λ z. Advances S T (drop at (held ++ sector)) (part put o) last (Ok z)) e s in
       far_ends S T l (held ++ sector) out o count at put far (Ok p) _ last w.0 w.1 refl
 
-  fails : (f : Fault) → Steps S T (drop at (held ++ sector)) (part put o) last (Err f)
+  fails : (f : Fault) → Advances S T (drop at (held ++ sector)) (part put o) last (Err f)
       → Runs S T (held ++ sector) out (after put o last)
       (record { characters = count; read = at; written = put; end = Err f })
   fails f w = far_ends S T l (held ++ sector) out o count at put far (Err f) _ last w.0 w.1 refl

@@ -5,33 +5,33 @@ use Rattle.std.specs.Result.{MatchResult}
 use Rattle.std.proofs.lemmas.Result.{MatchResult-weaker}
 use Rattle.charset.specs.Meaning.{Meaning}
 use Rattle.charset.specs.Sets.{set_of}
-use Rattle.answers.specs.declared.Answer.{Answer}
-use Rattle.answers.specs.declared.Answer.TheVariants as answer
-use Rattle.answers.specs.declared.Refusal.{Refusal}
-use Rattle.answers.specs.declared.Refusal.TheVariants.{AlreadyClosed, Standing}
-use Rattle.answers.specs.declared.State.TheVariants.{Open}
+use Rattle.transcript.specs.declared.answers.Answer.{Answer}
+use Rattle.transcript.specs.declared.answers.Answer.TheVariants as answer
+use Rattle.transcript.specs.declared.answers.Refusal.{Refusal}
+use Rattle.transcript.specs.declared.answers.Refusal.TheVariants.{AlreadyClosed, Standing}
+use Rattle.transcript.specs.declared.answers.State.TheVariants.{Open}
 use Rattle.transcript.specs.Calls.{Snapshot, OfferAnswer, limits, OfferedIf, refused}
 use Rattle.transcript.specs.Snapshots.{snapshot}
 use Rattle.transcript.specs.Uses.{offer, Step}
 use Rattle.transcript.specs.Called.{offered}
 use Rattle.transcript.proofs.calls.Transcript.call.Goals as goal
 
-pub returns-in-Closed-default-clause-told : goal.returns-in-Closed-default-clause-told
-returns-in-Closed-default-clause-told g c =
+pub returns-in-Closed-default-clause-steps : goal.returns-in-Closed-default-clause-steps
+returns-in-Closed-default-clause-steps g c =
     rw (c.in-Closed-default.is-1, c.in-Closed-default.is-0)
     (Err AlreadyClosed, (refl, search rules, refl), refl)
 
-pub returns-in-Closed-default-2-clause-told : goal.returns-in-Closed-default-2-clause-told
-returns-in-Closed-default-2-clause-told g c =
+pub returns-in-Closed-default-2-clause-steps : goal.returns-in-Closed-default-2-clause-steps
+returns-in-Closed-default-2-clause-steps g c =
     rw (c.in-Closed-default.is-1, c.in-Closed-default.is-0) (Err AlreadyClosed, (refl, refl), refl)
 
-pub returns-in-Faulted-Offer-clause-told : goal.returns-in-Faulted-Offer-clause-told
-returns-in-Faulted-Offer-clause-told g c =
+pub returns-in-Faulted-Offer-clause-steps : goal.returns-in-Faulted-Offer-clause-steps
+returns-in-Faulted-Offer-clause-steps g c =
     rw (c.in-Faulted-Offer.is-1, c.in-Faulted-Offer.is-0)
     (Err (Standing c.in-Faulted-Offer.fault), (refl, refl, refl), refl)
 
-pub returns-in-Faulted-Close-clause-told : goal.returns-in-Faulted-Close-clause-told
-returns-in-Faulted-Close-clause-told g c =
+pub returns-in-Faulted-Close-clause-steps : goal.returns-in-Faulted-Close-clause-steps
+returns-in-Faulted-Close-clause-steps g c =
     rw (c.in-Faulted-Close.is-1, c.in-Faulted-Close.is-0)
     (Err (Standing c.in-Faulted-Close.fault), (refl, refl), refl)
 
@@ -53,14 +53,14 @@ made : (a : OfferAnswer) (r : Result Answer Refusal)
 made (Ok d) r h = h
 made (Err q) r h = h
 
-pub returns-in-Open-Offer-clause-told : goal.returns-in-Open-Offer-clause-told
-returns-in-Open-Offer-clause-told g c =
+pub returns-in-Open-Offer-clause-steps : goal.returns-in-Open-Offer-clause-steps
+returns-in-Open-Offer-clause-steps g c =
     let m = c.args.self.now in
     let x = g.S.CharacterSet in let y = g.T.CharacterSet in
     rw c.in-Open-Offer.is-1
     (offered_open (set_of x m.converter.sets.source) (set_of y m.converter.sets.target)
     (snapshot m.progress) (snapshot c.feed.new.self.progress) c.in-Open-Offer.sector.now
     c.in-Open-Offer.output.now _ c.feed.new.output c.feed.result c.map.result
-    c.in-Open-Offer.is-0 c.feed.ensures.told (search rules)
+    c.in-Open-Offer.is-0 c.feed.ensures.steps (search rules)
     (made c.feed.result c.map.result (MatchResult-weaker c.feed.result c.map.ensures.cases
     (λ x p. search rules) (λ y p. p))))

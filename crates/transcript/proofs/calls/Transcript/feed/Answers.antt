@@ -13,8 +13,8 @@ settle-requires g c =
     (snapshot m.progress) c.args.sector.now c.args.output.now c.convert-run.new.output
     c.convert-run.result c.convert-run.ensures.runs c.in_ok-within_limits.ensures
 
-pub returns-clause-told : goal.returns-clause-told
-returns-clause-told g c =
+pub returns-clause-steps : goal.returns-clause-steps
+returns-clause-steps g c =
     let m = c.args.self.now in
     let s = g.S.CharacterSet in let x = m.converter.sets.source in
     let t = g.T.CharacterSet in let y = m.converter.sets.target in

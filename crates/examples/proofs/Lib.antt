@@ -1,0 +1,3 @@
+
+pub mod ShownSets
+pub mod ShownTranscripts

@@ -1,0 +1,4 @@
+pub mod Odd
+pub mod OddLaws
+pub mod SetsAndLayers
+pub mod Transcripts

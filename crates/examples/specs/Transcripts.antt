@@ -1,0 +1,51 @@
+-- Worked examples of transcripts.
+use Rattle.std.specs.Prelude.{◌≡◌, [], ◌∷◌, Ok, Err}
+use Rattle.sets.specs.Iso6937.{iso6937}
+use Rattle.sets.specs.SingleByte.{single_byte}
+use Rattle.sets.specs.SingleByteTables.{iso8859_16}
+use Rattle.conversion.specs.declared.Fault.TheVariants.{Unwritten, Unfinished}
+use Rattle.transcript.specs.declared.answers.Refusal.TheVariants.{Faulted}
+use Rattle.transcript.specs.declared.answers.State.TheVariants.{Open}
+use Rattle.transcript.specs.declared.answers.State.TheVariants as state
+use Rattle.transcript.specs.Told.{told}
+use Rattle.transcript.specs.Calls.{done, fault_at}
+use Rattle.transcript.specs.Uses.{start, offer, close, Use}
+use Rattle.examples.specs.SetsAndLayers.{WorkedExamples as OfSetsAndLayers}
+
+pub record WorkedExamples : Type 0 where
+  pub of_sets_and_layers : OfSetsAndLayers
+  -- ISO/IEC 6937 into ISO/IEC 8859-16: an acute in one sector is held, and with its letter in the
+  -- next it is written
+  pub acute_held : Use iso6937 (single_byte iso8859_16)
+      (offer (0xc2 ∷ []) (0 ∷ []) (Ok (done 1 0)) (0 ∷ []) ∷ (start ∷ []))
+      (record { state = Open; taken = 1; characters = 0; written = 0; held = 0xc2 ∷ [] })
+  pub letter_next : Use iso6937 (single_byte iso8859_16)
+      (offer (0x65 ∷ []) (0 ∷ []) (Ok (done 1 1)) (0xe9 ∷ [])
+      ∷ (offer (0xc2 ∷ []) (0 ∷ []) (Ok (done 1 0)) (0 ∷ []) ∷ (start ∷ [])))
+      (record { state = Open; taken = 2; characters = 1; written = 1; held = [] })
+  -- a letter, then s with cedilla, which the target set does not have: 7 at offset 1
+  pub no_cedilla : Use iso6937 (single_byte iso8859_16)
+      (offer (0x41 ∷ 0xcb ∷ 0x73 ∷ []) (0 ∷ 0 ∷ [])
+      (Err (Faulted (fault_at (Unwritten 0x15f) 1 1 1))) (0x41 ∷ 0 ∷ []) ∷ (start ∷ []))
+      (record {
+        state = state.Faulted (fault_at (Unwritten 0x15f) 1 1 1);
+        taken = 1;
+        characters =
+            1;
+        written = 1;
+        held = [];
+      })
+  -- an acute, then a closing: 9 at offset 0
+  pub acute_closed : Use iso6937 (single_byte iso8859_16)
+      (close (Err (Faulted (fault_at Unfinished 0 0 0)))
+      ∷ (offer (0xc2 ∷ []) (0 ∷ []) (Ok (done 1 0)) (0 ∷ []) ∷ (start ∷ [])))
+      (record {
+        state = state.Faulted (fault_at Unfinished 0 0 0);
+        taken = 1;
+        characters =
+            0;
+        written = 0;
+        held = 0xc2 ∷ [];
+      })
+  pub numbers : ((told (Faulted (fault_at (Unwritten 0x15f) 1 1 1))).number ≡ 7)
+      × ((told (Faulted (fault_at Unfinished 0 0 0))).number ≡ 9)

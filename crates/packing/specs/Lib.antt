@@ -1,3 +1,0 @@
-pub mod Built
-pub mod Messages
-pub mod Packed

@@ -1,2 +1,0 @@
-pub mod PageControls
-pub mod Examples

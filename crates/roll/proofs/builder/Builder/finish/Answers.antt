@@ -1,0 +1,19 @@
+use Rattle.std.proofs.Common.{◌≡◌, length, ap, sym, ◌∙◌, rules}
+use Rattle.roll.specs.Packed.{packed}
+use Rattle.roll.proofs.Built.{packed-pages_in}
+use Rattle.roll.proofs.builder.Builder.finish.Goals as goal
+
+pub returns-clause-roll : goal.returns-clause-roll
+returns-clause-roll c =
+    let b = c.self.inside in
+    let p = packed-pages_in b.entries.items b.bytes.items c.self.invariant.sized in
+    let total : c.len-total.result ≡ length b.bytes.items = search rules in
+    let count : c.len.result ≡ length b.entries.items = search rules in
+    rw (
+      c.in_ok-write_trailer.ensures,
+      c.in_ok-write_index.ensures,
+      c.deref.ensures.value,
+      total,
+      count,
+    )
+    (sym p ∙ ap packed c.self.view_is)

@@ -1,0 +1,22 @@
+-- How a builder holds its pages.
+use Rattle.std.specs.Prelude.{◌≡◌, ℕ, ◌+◌, ◌*◌, ◌≤◌, List, [], ◌∷◌, ◌++◌, length, take, drop}
+use Rattle.std.specs.Prelude.{sum_by}
+use Rattle.roll.specs.declared.builder.NewEntry.{NewEntry}
+use Rattle.roll.specs.Packed.{PackedPage, entry_of}
+
+-- the pages, cut from their bytes
+abbrev pub pages_in : List NewEntry → List ℕ → List PackedPage
+pages_in [] bytes = []
+pages_in (e ∷ es) bytes =
+    record { form = e.form; bytes = take e.size bytes } ∷ pages_in es (drop e.size bytes)
+
+-- the entries' sizes add up to all bytes, and a roll can hold them
+pub record IsBuilt (entries : List NewEntry) (bytes : List ℕ) : Type 0 where
+  pub few : length entries ≤ 1024
+  pub sized : sum_by (λ e. e.size) entries ≡ length bytes
+  pub small : length bytes + 12 * length entries + 16 ≤ 1048576
+
+-- the index of entries of which the first page begins at an offset
+abbrev pub index_of : (offset : ℕ) → List NewEntry → List ℕ
+index_of offset [] = []
+index_of offset (e ∷ es) = entry_of offset e.size e.form ++ index_of (offset + e.size) es

@@ -1,0 +1,148 @@
+// A roll that is being packed.
+ghost use Rattle.std.specs.Prelude.{◌≡◌, ◌+◌, ◌≤◌, [], ◌∷◌, ◌++◌, length, sum_by, IfOk, OnOk};
+ghost use Rattle.roll.specs.Packed.{trailer_of};
+ghost use Rattle.roll.specs.Built.{index_of};
+
+use crate::pack_refusal::PackRefusal;
+use std::alloc::{AllocError, Global};
+use std::marker::Model;
+
+// The limits of the format are written here again, so that this crate needs nothing of what reads
+// rolls.
+const LAST_FORM: u8 = 7;
+
+const MOST_PAGES: usize = 1_024;
+
+// Of a whole roll.
+const MOST_BYTES: usize = 1_048_576;
+
+// An entry of the index, to a page.
+const ENTRY_BYTES: usize = 12;
+
+const TRAILER_BYTES: usize = 16;
+
+// The number of a page's form, 0 for a picture, and how many bytes the page has.
+#[derive(Clone, Copy)]
+struct NewEntry {
+    form: u8,
+    size: u32,
+}
+
+#[derive(Drop)]
+pub struct Builder {
+    // The bytes of the pages, one page behind the other.
+    bytes: Vec<u8>,
+    entries: Vec<NewEntry>,
+}
+
+impl Model for Builder {
+    ghost use Rattle.std.specs.Prelude.{List};
+    ghost use Rattle.roll.specs.Packed.{PackedPage};
+
+    ghost Value = { List PackedPage };
+
+    ghost use Rattle.roll.specs.Built.{pages_in, IsBuilt};
+
+    ghost view = { λ b. pages_in b.entries.items b.bytes.items };
+
+    ghost invariant = { λ b. IsBuilt b.entries.items b.bytes.items };
+}
+
+impl Builder {
+    ghost use Rattle.roll.specs.Packed.{PackedPage, used_by, packed, RoomFor, FitsRoll};
+
+    // No pages yet.
+    pub fn new(heap: Global) -> Builder
+        ensures { result ≡ [] }
+    {
+        Builder {
+            bytes: Vec::new(heap),
+            entries: Vec::new(heap),
+        }
+    }
+
+    #[tactic(auto, using(crate::proofs::Built::the_pages))]
+    fn page_count(&self) -> usize
+        ensures { result ≡ length self.now }
+    {
+        self.entries.len()
+    }
+
+    // The bytes of the roll as it stands.
+    #[tactic(auto, using(crate::proofs::Built::the_pages))]
+    fn size(&self) -> usize
+        ensures size { result ≡ used_by self.now + 16 }
+        ensures fits { FitsRoll self.now }
+    {
+        self.bytes.len() + ENTRY_BYTES * self.entries.len() + TRAILER_BYTES
+    }
+
+    // One page more, behind the others. The form is any number: that one above 7 is refused is a
+    // part of the promise.
+    #[tactic(auto, using(crate::proofs::Built::pages_in_push))]
+    pub fn with_page(self, form: u8, page: &[u8]) -> Result<Builder, PackRefusal>
+        ensures fits { FitsRoll self }
+        ensures room { RoomFor form (length self) (used_by self) (length page.now) result }
+        ensures added { IfOk result (λ b. b ≡ self ++ record { form = form; bytes = page.now } ∷ []) }
+    {
+        let size = self.size() + ENTRY_BYTES + page.len();
+        if form > LAST_FORM {
+            return Err(PackRefusal::UnknownForm);
+        }
+        if self.page_count() >= MOST_PAGES {
+            return Err(PackRefusal::TooManyPages);
+        }
+        if size > MOST_BYTES {
+            return Err(PackRefusal::TooLong);
+        }
+        let Builder {
+            mut bytes,
+            mut entries,
+        } = self;
+        let size = page.len() as u32;
+        entries
+            .push(NewEntry { form, size })
+            .map_err(AllocError::from)?;
+        bytes.extend_from_slice(page)?;
+        Ok(Builder { bytes, entries })
+    }
+
+    // The roll: the pages, the index and the trailer.
+    #[tactic(auto, using(crate::proofs::Built::the_pages))]
+    pub fn finish(self) -> Result<Vec<u8>, AllocError>
+        ensures fits { FitsRoll self }
+        ensures roll { IfOk result (λ roll. roll.items ≡ packed self) }
+    {
+        let Builder { bytes, entries } = self;
+        let total = bytes.len() as u32;
+        let mut roll = bytes;
+        write_index(&mut roll, &entries)?;
+        write_trailer(&mut roll, total, entries.len() as u32)?;
+        Ok(roll)
+    }
+}
+
+// The index, an entry to a page. A loop with `?`: as a fold over the offset it is no shorter.
+fn write_index(roll: &mut Vec<u8>, entries: &[NewEntry]) -> Result<(), AllocError>
+    requires { sum_by (λ e. e.size) entries.now ≤ 1048576 }
+    ensures { OnOk result (roll.new.items ≡ roll.old.items ++ index_of 0 entries.now) }
+{
+    let mut offset = 0u32;
+    for entry in entries {
+        roll.extend_from_slice(&offset.to_be_bytes())?;
+        roll.extend_from_slice(&entry.size.to_be_bytes())?;
+        roll.extend_from_slice(&[entry.form, 0, 0, 0])?;
+        offset += entry.size;
+    }
+    Ok(())
+}
+
+fn write_trailer(roll: &mut Vec<u8>, total: u32, count: u32) -> Result<(), AllocError>
+    ensures { OnOk result (roll.new.items ≡ roll.old.items ++ trailer_of total count) }
+{
+    roll.extend_from_slice(&total.to_be_bytes())?;
+    roll.extend_from_slice(&count.to_be_bytes())?;
+    roll.extend_from_slice(&total.to_be_bytes())?;
+    roll.extend_from_slice(b"ROLL")?;
+    Ok(())
+}

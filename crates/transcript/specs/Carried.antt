@@ -1,0 +1,71 @@
+-- What carrying out a use of a transcript on a text comes to.
+use Rattle.std.specs.Prelude.{◌≡◌, ℕ, ◌⊎◌, List, [], ◌∷◌, length, Some, None, Ok, Err, Option}
+use Rattle.std.specs.Prelude.{Result}
+use Rattle.charset.specs.Meaning.{Meaning}
+use Rattle.conversion.specs.declared.Fault.{Fault}
+use Rattle.transcript.specs.declared.answers.FaultAt.{FaultAt}
+use Rattle.transcript.specs.declared.answers.Refusal.{Refusal}
+use Rattle.transcript.specs.declared.answers.Refusal.TheVariants as refusal
+use Rattle.transcript.specs.declared.answers.State.TheVariants as state
+use Rattle.transcript.specs.declared.answers.Status.{Status}
+use Rattle.transcript.specs.Calls.{Snapshot, OfferAnswer}
+use Rattle.transcript.specs.Uses.{Event, start, offer, close, status, Use, taken_in, written_in}
+use Rattle.transcript.specs.Law.{Feeds}
+
+-- all is transcribed, or a fault is met
+abbrev pub Outcome : Type 0
+Outcome = Result (Unit {0}) FaultAt
+
+abbrev pub fault_in : Outcome → Option Fault
+fault_in (Ok u) = None
+fault_in (Err f) = Some f.fault
+
+-- how many bytes are transcribed
+abbrev pub offset_in : List ℕ → Outcome → ℕ
+offset_in bytes (Ok u) = length bytes
+offset_in bytes (Err f) = f.offset
+
+-- an answer that is taken or meets a fault, as an answer of a transcript
+abbrev pub refused_by : {X : Type 0} → Result X FaultAt → Result X Refusal
+refused_by (Ok x) = Ok x
+refused_by (Err f) = Err (refusal.Faulted f)
+
+-- an offer that is taken or meets a fault, and no other: in particular no output was too small
+abbrev pub TakenOrFaulted : OfferAnswer → Type 0
+TakenOrFaulted (Ok d) = Unit {0}
+TakenOrFaulted (Err refusal.SectorTooLong) = ⊥
+TakenOrFaulted (Err refusal.OutputTooLong) = ⊥
+TakenOrFaulted (Err refusal.SourceTooLong) = ⊥
+TakenOrFaulted (Err (refusal.Standing f)) = ⊥
+TakenOrFaulted (Err refusal.AlreadyClosed) = ⊥
+TakenOrFaulted (Err (refusal.Faulted f)) = Unit {0}
+TakenOrFaulted (Err (refusal.Full d)) = ⊥
+
+abbrev pub AllTakenOrFaulted : List Event → Type 0
+AllTakenOrFaulted [] = Unit {0}
+AllTakenOrFaulted (start ∷ past) = AllTakenOrFaulted past
+AllTakenOrFaulted (offer sector out r after ∷ past) = TakenOrFaulted r × AllTakenOrFaulted past
+AllTakenOrFaulted (close r ∷ past) = AllTakenOrFaulted past
+AllTakenOrFaulted (status r ∷ past) = AllTakenOrFaulted past
+
+-- after offers of the bytes a last one faulted, or they were all taken and a closing was answered;
+-- then came a status call
+abbrev pub Ended : List ℕ → List Event → List Event → Snapshot → Outcome → Status → Type 0
+Ended bytes offers events last outcome told =
+    ((f : FaultAt) × (outcome ≡ Err f) × (last.state ≡ state.Faulted f)
+    × (events ≡ status told ∷ offers))
+    ⊎ ((taken_in offers ≡ bytes) × (events ≡ status told ∷ (close (refused_by outcome) ∷ offers)))
+
+-- a use of a transcript in which the bytes were offered, and what it came to
+pub record CarriedOut (S T : Meaning) (bytes text : List ℕ) (characters : ℕ)
+    (outcome : Outcome) : Type 0 where
+  pub offers : List Event
+  pub events : List Event
+  pub last : Snapshot
+  pub told : Status
+  pub used : Use S T events last
+  pub fed : Feeds bytes offers
+  pub taken_or_faulted : AllTakenOrFaulted offers
+  pub ended : Ended bytes offers events last outcome told
+  pub text_is : text ≡ written_in events
+  pub characters_is : characters ≡ told.characters

@@ -1,3 +1,0 @@
-pub mod Along
-pub mod Sectors
-pub mod Ending

@@ -1,6 +1,0 @@
-use Rattle.std.proofs.Common.{rules}
-use Rattle.worked_examples.specs.OddLaws.{bad_second}
-use Rattle.worked_examples.proofs.odd.OddCharacterSet.read.Goals as goal
-
-pub returns-in_err-character : goal.returns-in_err-character
-returns-in_err-character c = search (rules, bad_second)

@@ -1,2 +1,0 @@
-pub mod Odd
-pub mod OddLaws
