@@ -1,7 +1,7 @@
 -- What an entry of the index tells.
 use Rattle.std.specs.Prelude.{◌≡◌, ℕ, ◌+◌, true, false, List, Result, MatchResult}
-use Rattle.roll.specs.declared.refusal.RollFault.{RollFault}
-use Rattle.roll.specs.declared.refusal.RollFault.TheVariants.{BadEntry}
+use Rattle.roll.specs.declared.refusal.RollRefusal.{RollRefusal}
+use Rattle.roll.specs.declared.refusal.RollRefusal.TheVariants.{BadEntry}
 use Rattle.roll.specs.declared.index.Entry.{Entry}
 use Rattle.roll.specs.Format.{offset, size, form, padded, starts, entry_holds}
 
@@ -12,7 +12,7 @@ EntryAt b k e =
     × (e.padded ≡ padded b k)
 
 -- where the page after it would start, or that the entry breaks a rule
-abbrev pub CheckedEnd : List ℕ → ℕ → Result ℕ RollFault → Type 0
+abbrev pub CheckedEnd : List ℕ → ℕ → Result ℕ RollRefusal → Type 0
 CheckedEnd b k r =
     MatchResult r (λ end. (entry_holds b k ≡ true) × (end ≡ starts b (k + 1)))
     (λ e. (entry_holds b k ≡ false) × (e ≡ BadEntry (k + 1)))

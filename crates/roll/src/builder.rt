@@ -4,22 +4,9 @@ ghost use Rattle.roll.specs.Packed.{trailer_of};
 ghost use Rattle.roll.specs.Built.{index_of};
 
 use crate::pack_refusal::PackRefusal;
+use crate::{ENTRY_BYTES, LARGEST_ROLL, LAST_FORM, MOST_PAGES, TRAILER_BYTES};
 use std::alloc::{AllocError, Global};
 use std::marker::Model;
-
-// The limits of the format are written here again, so that this crate needs nothing of what reads
-// rolls.
-const LAST_FORM: u8 = 7;
-
-const MOST_PAGES: usize = 1_024;
-
-// Of a whole roll.
-const MOST_BYTES: usize = 1_048_576;
-
-// An entry of the index, to a page.
-const ENTRY_BYTES: usize = 12;
-
-const TRAILER_BYTES: usize = 16;
 
 // The number of a page's form, 0 for a picture, and how many bytes the page has.
 #[derive(Clone, Copy)]
@@ -92,7 +79,7 @@ impl Builder {
         if self.page_count() >= MOST_PAGES {
             return Err(PackRefusal::TooManyPages);
         }
-        if size > MOST_BYTES {
+        if size > LARGEST_ROLL {
             return Err(PackRefusal::TooLong);
         }
         let Builder {

@@ -2,8 +2,8 @@
 ghost use Rattle.std.specs.Prelude.{◌≡◌, ◌+◌, ◌<◌, ◌≤◌, length};
 ghost use Rattle.roll.specs.Format.{word, index_offset, page_count, starts, Indexed};
 
+use crate::refusal::RollRefusal;
 use crate::{ENTRY_BYTES, LAST_FORM};
-use pages::RollFault;
 
 // Four bytes as a number, the highest first.
 pub(crate) fn word_at(bytes: &[u8], at: usize) -> u32
@@ -56,7 +56,7 @@ impl Index<'_> {
 
     // Where the page of an entry ends, if the entry keeps the rules and the page before ends at
     // `start`.
-    fn checked_end(&self, place: usize, start: usize) -> Result<usize, RollFault>
+    fn checked_end(&self, place: usize, start: usize) -> Result<usize, RollRefusal>
         requires below { place < self.now.count }
         requires follows { start ≡ starts self.now.bytes.now place }
         ensures { CheckedEnd self.now.bytes.now place result }
@@ -67,18 +67,18 @@ impl Index<'_> {
             && entry.padded
             && (place + 1 != self.count || entry.end == self.start);
         if !holds {
-            return Err(RollFault::BadEntry(place as u32 + 1));
+            return Err(RollRefusal::BadEntry(place as u32 + 1));
         }
         Ok(entry.end)
     }
 
     // Where the last page ends, which is the sum of the lengths, if every entry keeps the rules. A
     // loop with `?`: as a fold over the end of the page before it is no shorter.
-    pub(crate) fn checked_total(&self) -> Result<usize, RollFault>
+    pub(crate) fn checked_total(&self) -> Result<usize, RollRefusal>
         ensures { Checked self.now.bytes.now result }
     {
         if self.count == 0 && self.start != 0 {
-            return Err(RollFault::BadEntry(0));
+            return Err(RollRefusal::BadEntry(0));
         }
         let mut end = 0;
         for place in 0..self.count {

@@ -1,11 +1,20 @@
-// The format of a roll: pages, then an index, then a trailer of sixteen bytes.
+// The format of a roll: pages, then an index, then a trailer of sixteen bytes. Rolls are packed and
+// opened here.
 #![tactic(auto)]
 
+mod builder;
 mod each_page;
 mod index;
+mod pack_refusal;
+mod page;
+mod refusal;
 mod roll;
 
+pub use builder::Builder;
 pub use each_page::Pages;
+pub use pack_refusal::PackRefusal;
+pub use page::{Form, Page, UnknownForm};
+pub use refusal::{RefusalTold, RollRefusal};
 pub use roll::Roll;
 
 // How many bytes a roll may have, and how many pages.

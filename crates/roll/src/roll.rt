@@ -6,8 +6,9 @@ ghost use Rattle.std.proofs.Props.{props};
 
 use crate::each_page::Pages;
 use crate::index::{Index, word_at};
+use crate::page::{Form, Page};
+use crate::refusal::RollRefusal;
 use crate::{ENTRY_BYTES, LARGEST_ROLL, MOST_PAGES, SMALLEST_ROLL, TRAILER_BYTES};
-use pages::{Form, Page, RollFault};
 
 // The letters ROLL.
 const MARK: u32 = 0x524F_4C4C;
@@ -25,20 +26,20 @@ impl<'a> Roll<'a> {
     ghost use Rattle.roll.specs.EachPage.{source};
 
     // Checks every rule, in the order of their numbers.
-    pub fn open(bytes: &'a [u8]) -> Result<Roll<'a>, RollFault>
+    pub fn open(bytes: &'a [u8]) -> Result<Roll<'a>, RollRefusal>
         ensures { MatchResult result (λ roll. (bytes_of roll ≡ bytes.now) × Accepted bytes.now) (λ e. Refuses bytes.now e) }
     {
         let len = bytes.len();
         if len < SMALLEST_ROLL || len > LARGEST_ROLL {
-            return Err(RollFault::WrongSize);
+            return Err(RollRefusal::WrongSize);
         }
         if word_at(bytes, len - 4) != MARK {
-            return Err(RollFault::NoMark);
+            return Err(RollRefusal::NoMark);
         }
         let start = word_at(bytes, len - TRAILER_BYTES) as usize;
         let count = word_at(bytes, len - 12) as usize;
         if count > MOST_PAGES || start + ENTRY_BYTES * count + TRAILER_BYTES != len {
-            return Err(RollFault::WrongIndex);
+            return Err(RollRefusal::WrongIndex);
         }
         let index = Index {
             bytes,
@@ -47,7 +48,7 @@ impl<'a> Roll<'a> {
         };
         let total = index.checked_total()?;
         if word_at(bytes, len - 8) as usize != total {
-            return Err(RollFault::WrongTotal);
+            return Err(RollRefusal::WrongTotal);
         }
         Ok(Roll { index })
     }
@@ -61,11 +62,11 @@ impl<'a> Roll<'a> {
 
     // A page by its number, from 1.
     #[tactic(auto, using(crate::proofs::Inside::page_inside))]
-    pub fn page(&self, number: usize) -> Result<Page<'a>, RollFault>
+    pub fn page(&self, number: usize) -> Result<Page<'a>, RollRefusal>
         ensures { PageAt (bytes_of self.now) number result }
     {
         if number == 0 || number > self.index.count {
-            return Err(RollFault::NoSuchPage);
+            return Err(RollRefusal::NoSuchPage);
         }
         let entry = self.index.entry(number - 1);
         let offset = entry.offset;

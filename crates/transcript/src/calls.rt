@@ -6,8 +6,8 @@ ghost use Rattle.transcript.specs.Snapshots.{snapshot};
 ghost use Rattle.transcript.specs.Uses.{start, offer, close, Step};
 ghost use Rattle.transcript.specs.Called.{Called};
 
-use crate::progress::Progress;
 use crate::answers::{Answer, Done, Refusal, State, Status};
+use crate::progress::Progress;
 use charset::CharacterSet;
 use conversion::Converter;
 

@@ -2,8 +2,8 @@
 // it holds.
 ghost use Rattle.std.specs.Prelude.{◌+◌, ◌*◌, ◌≤◌, length};
 
-use crate::{LONGEST_OUTPUT, LONGEST_SECTOR, LONGEST_SOURCE};
 use crate::answers::{Done, FaultAt, Refusal, State, Status};
+use crate::{LONGEST_OUTPUT, LONGEST_SECTOR, LONGEST_SOURCE};
 use charset::Front;
 use conversion::{Fault, Pause, Run};
 

@@ -3,9 +3,9 @@ ghost use Rattle.std.specs.Prelude.{◌≡◌};
 ghost use Rattle.transcript.specs.Snapshots.{snapshot, Restored};
 
 use crate::LONGEST_SOURCE;
+use crate::answers::Status;
 use crate::calls::Transcript;
 use crate::progress::Progress;
-use crate::answers::Status;
 use charset::{CharacterSet, Front};
 use conversion::Converter;
 
