@@ -1,7 +1,4 @@
-// Stacks of layers on a page, and the worked examples of sets and layers. That each stack is a
-// character set follows from its type alone.
-#![tactic(auto)]
-
+// Stacks of layers: that each is a character set follows from its type alone.
 ghost use Rattle.charset.specs.Sets.{set_of};
 ghost use Rattle.charset.specs.Decoding.{ReadByLaws};
 ghost use Rattle.sets.specs.Iso6937.{iso6937};
@@ -9,15 +6,9 @@ ghost use Rattle.layers.specs.Layers.{parity, shift, controls};
 ghost use Rattle.forms.specs.PageControls.{page_controls};
 
 use charset::{CharacterSet, Reading, SetRefusal, read_front};
+use forms::PAGE_CONTROLS;
 use layers::{with_controls, with_parity, with_shift};
 use sets::Iso6937;
-
-// The controls of a page: 09, 0A, 0C and 0D.
-#[rattlefmt::skip]
-pub const PAGE_CONTROLS: [bool; 32] = [
-    false, false, false, false, false, false, false, false, false, true, true, false, true, true, false, false,
-    false, false, false, false, false, false, false, false, false, false, false, false, false, false, false, false,
-];
 
 // What stands in front of a page of 7-bit ISO/IEC 6937 with the controls of a page, all under
 // parity.

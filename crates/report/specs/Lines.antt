@@ -1,10 +1,10 @@
 -- The line on how a page went.
 use Rattle.std.specs.Prelude.{ℕ, List, [], ◌∷◌, ◌++◌, Some, None, Ok, Err, codes, decimal, Option}
 use Rattle.std.specs.Prelude.{Result}
-use Rattle.roll.specs.declared.refusal.RollFault.{RollFault}
+use Rattle.report.specs.declared.fault.RollFault.{RollFault}
 use Rattle.roll.specs.declared.page.Form.{Form}
 use Rattle.roll.specs.Forms.{form_number}
-use Rattle.roll.specs.Told.{told}
+use Rattle.report.specs.Told.{fault_told}
 
 -- the number of a page's form; a picture has 0
 abbrev pub form_told : Option Form → ℕ
@@ -21,7 +21,7 @@ line_of n form characters (Err f) =
     decimal n ++ (codes " " ++ (decimal (form_told form)
     ++ (codes " "
     ++ (decimal characters
-    ++ (codes " " ++ (decimal (told f).number ++ (codes "@" ++ decimal (told f).offset)))))))
+    ++ (codes " " ++ (decimal (fault_told f).told.number ++ (codes "@" ++ decimal (fault_told f).told.offset)))))))
 
 -- the text of a page, its line, and a line feed behind each
 abbrev pub block_of : (text : List ℕ) → (number : ℕ) (form : Option Form) (characters : ℕ)

@@ -1,15 +1,18 @@
 -- What is written of a roll.
 use Rattle.std.specs.Prelude.{◌≡◌, ℕ, zero, suc, ◌+◌, ◌<◌, ◌≤◌, ◌⊎◌, List, [], ◌∷◌, ◌++◌, length}
 use Rattle.std.specs.Prelude.{Ok, Err, decimal, Result}
-use Rattle.roll.specs.declared.refusal.RollFault.{RollFault}
-use Rattle.roll.specs.declared.refusal.RollFault.TheVariants.{WrongSize}
+use Rattle.roll.specs.declared.refusal.RollRefusal.{RollRefusal}
+use Rattle.roll.specs.declared.refusal.RollRefusal.TheVariants.{WrongSize}
+use Rattle.report.specs.declared.fault.RollFault.{RollFault}
+use Rattle.report.specs.declared.fault.RollFault.TheVariants.{Refused}
 use Rattle.roll.specs.declared.page.Page.{Page}
-use Rattle.roll.specs.Told.{told}
+use Rattle.roll.specs.Told.{refusal_told}
 use Rattle.roll.specs.declared.roll.Roll.{Roll}
 use Rattle.roll.specs.Format.{page_count}
 use Rattle.roll.specs.Opened.{Refuses, Accepted}
 use Rattle.roll.specs.Rolls.{bytes_of}
 use Rattle.roll.specs.Pages.{PartAt}
+use Rattle.report.specs.declared.TheConstants.{LONGEST_INPUT}
 use Rattle.report.specs.Texts.{page_form, IsPageText}
 use Rattle.report.specs.Lines.{block_of}
 
@@ -36,14 +39,16 @@ abbrev pub number_line : ℕ → List ℕ
 number_line n = decimal n ++ (0x0a ∷ [])
 
 -- an input over 65,536 bytes is refused by 14, and any other as a roll is
-abbrev pub Opens : List ℕ → Result Roll RollFault → Type 0
-Opens b (Ok roll) = (length b ≤ 65536) × (bytes_of roll ≡ b)
-Opens b (Err e) = ((65536 < length b) × (e ≡ WrongSize)) ⊎ ((length b ≤ 65536) × Refuses b e)
+abbrev pub InputRefused : List ℕ → RollRefusal → Type 0
+InputRefused b e =
+    ((LONGEST_INPUT < length b) × (e ≡ WrongSize)) ⊎ ((length b ≤ LONGEST_INPUT) × Refuses b e)
 
--- an input over 65,536 bytes is answered by 14, a refused roll by its number, and any other by its
--- pages
+abbrev pub OpensInput : List ℕ → Result Roll RollFault → Type 0
+OpensInput b (Ok roll) = (length b ≤ LONGEST_INPUT) × (bytes_of roll ≡ b)
+OpensInput b (Err f) = (e : RollRefusal) × (f ≡ Refused e) × InputRefused b e
+
+-- a refused input is answered by its number, and any other by its pages
 abbrev pub Reports : List ℕ → List ℕ → Type 0
 Reports b out =
-    ((65536 < length b) × (out ≡ number_line 14))
-    ⊎ ((length b ≤ 65536) × (((e : RollFault) × Refuses b e × (out ≡ number_line (told e).number))
-    ⊎ (Accepted b × PagesWritten b (page_count b) out)))
+    ((e : RollRefusal) × InputRefused b e × (out ≡ number_line (refusal_told e).number))
+    ⊎ ((length b ≤ LONGEST_INPUT) × Accepted b × PagesWritten b (page_count b) out)

@@ -8,8 +8,9 @@ use Rattle.conversion.specs.declared.Fault.TheVariants.{Unwritten}
 use Rattle.transcript.specs.declared.transcription.Transcription.{Transcription}
 use Rattle.transcript.specs.Carried.{Outcome, fault_in, offset_in, CarriedOut}
 use Rattle.conversion.specs.Transcribed.{TheTranscript}
-use Rattle.roll.specs.declared.refusal.RollFault.{RollFault}
-use Rattle.roll.specs.declared.refusal.RollFault.TheVariants.{WrongSize, Faulted}
+use Rattle.roll.specs.declared.refusal.RollRefusal.TheVariants.{WrongSize}
+use Rattle.report.specs.declared.fault.RollFault.{RollFault}
+use Rattle.report.specs.declared.fault.RollFault.TheVariants.{Refused, Faulted}
 use Rattle.roll.specs.declared.page.Form.{Form}
 use Rattle.roll.specs.declared.page.Page.{Page}
 use Rattle.roll.specs.declared.page.Page.TheVariants.{Text, Picture}
@@ -51,5 +52,5 @@ abbrev pub IsPageText : ℕ → Page → (text : List ℕ) → (characters : ℕ
 IsPageText n (Text f part at) text characters r =
     ((length part.now ≤ 4294967296) × (o : Outcome) × TextIn (form_set f) part.now text characters o
     × (r ≡ on_page n o))
-    ⊎ ((4294967296 < length part.now) × (text ≡ []) × (characters ≡ 0) × (r ≡ Err WrongSize))
+    ⊎ ((4294967296 < length part.now) × (text ≡ []) × (characters ≡ 0) × (r ≡ Err (Refused WrongSize)))
 IsPageText n (Picture part at) text characters r = (text ≡ []) × (characters ≡ 0) × (r ≡ Ok tt)

@@ -5,12 +5,16 @@ ghost use Rattle.std.specs.Prelude.{◌≡◌, IfOk, string_bytes};
 ghost use Rattle.roll.specs.Format.{page_count};
 ghost use Rattle.roll.specs.Rolls.{bytes_of};
 ghost use Rattle.report.specs.Lines.{line_of};
-ghost use Rattle.report.specs.Reports.{PageBlock, PagesWritten, number_line, Opens, Reports};
+ghost use Rattle.report.specs.Reports.{PageBlock, PagesWritten, number_line, OpensInput, Reports};
 
-use forms::{PageText, page_text};
-use pages::{Page, RollFault, RollTold};
-use roll::Roll;
+mod fault;
+mod text;
+
+pub use fault::{RollFault, RollTold};
+use roll::{Page, Roll, RollRefusal};
 use std::alloc::{AllocError, Global};
+pub use text::{PageText, form_text, page_text};
+use transcript::Told;
 
 // How many bytes a roll may have that `report` reads.
 pub const LONGEST_INPUT: usize = 65_536;
@@ -24,11 +28,12 @@ pub fn line(heap: Global, number: u32, page: &PageText) -> Result<String, AllocE
     match page.outcome {
         Ok(()) => format!(in heap; "{number} {form} {characters} ok"),
         Err(fault) => {
-            let RollTold {
+            let RollTold { told, .. } = fault.told();
+            let Told {
                 number: refusal,
                 offset,
                 ..
-            } = fault.told();
+            } = told;
             format!(in heap; "{number} {form} {characters} {refusal}@{offset}")
         }
     }
@@ -70,12 +75,12 @@ fn blocks(heap: Global, roll: &Roll) -> Result<Vec<u8>, AllocError>
 
 // An input as a roll; one that is too long for a report is refused as a roll of the wrong size is.
 fn opened(input: &[u8]) -> Result<Roll<'_>, RollFault>
-    ensures { Opens input.now result }
+    ensures { OpensInput input.now result }
 {
     if input.len() > LONGEST_INPUT {
-        return Err(RollFault::WrongSize);
+        return Err(RollRefusal::WrongSize.into());
     }
-    Roll::open(input)
+    Ok(Roll::open(input)?)
 }
 
 // What is written of an input.
@@ -84,6 +89,6 @@ pub fn report(heap: Global, input: &[u8]) -> Result<Vec<u8>, AllocError>
 {
     match opened(input) {
         Ok(roll) => blocks(heap, &roll),
-        Err(fault) => number_line(heap, fault.told().number),
+        Err(fault) => number_line(heap, fault.told().told.number),
     }
 }

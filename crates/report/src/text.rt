@@ -1,28 +1,23 @@
 // The text of a page, by its form.
-#![tactic(auto)]
-
 ghost use Rattle.std.specs.Prelude.{◌≡◌, IfOk};
 ghost use Rattle.transcript.specs.Failures.{IsTooLongOrWanting};
 ghost use Rattle.transcript.specs.Carried.{fault_in};
-ghost use Rattle.examples.specs.Transcripts.{WorkedExamples};
 ghost use Rattle.forms.specs.FormSets.{form_set};
 ghost use Rattle.report.specs.Texts.{TextOf, AlwaysWritten, on_page, page_form, IsEmptyText};
 ghost use Rattle.report.specs.Texts.{IsPageText};
 
-use answers::FaultAt;
-use form_sets::FormSet;
-use pages::{Form, Page, RollFault};
+use crate::fault::RollFault;
+use forms::FormSet;
+use roll::{Form, Page, RollRefusal};
 use sets::Utf8;
 use std::alloc::{AllocError, Global};
-use transcription::{Failure, Transcription, transcribe};
+use transcript::{Failure, FaultAt, Transcription, transcribe};
 
 // Bytes of a form, in UTF-8.
-#[tactic(auto, using(crate::proofs::Shown::worked_examples))]
 pub fn form_text(heap: Global, form: Form, bytes: &[u8]) -> Result<Transcription, Failure>
     ensures text { IfOk result (λ p. TextOf (form_set form) bytes.now p) }
     ensures too_long { IsTooLongOrWanting bytes.now result }
     ensures always_written { IfOk result (λ p. AlwaysWritten (fault_in p.outcome)) }
-    ensures worked_examples { WorkedExamples }
 {
     let set = FormSet::of(heap, form)?;
     transcribe(heap, set, Utf8, bytes)
@@ -76,7 +71,11 @@ pub fn page_text(heap: Global, number: u32, page: &Page) -> Result<PageText, All
             characters: read.characters,
             outcome: on_page(number, read.outcome),
         }),
-        Err(Failure::TooLong) => Ok(PageText::empty(heap, Some(form), Err(RollFault::WrongSize))),
+        Err(Failure::TooLong) => Ok(PageText::empty(
+            heap,
+            Some(form),
+            Err(RollRefusal::WrongSize.into()),
+        )),
         Err(Failure::NoMemory) => Err(AllocError),
     }
 }
