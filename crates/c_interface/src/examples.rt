@@ -3,8 +3,8 @@ use crate::{
     StatusRecord, TranscriptRecord, finetalc_close, finetalc_offer, finetalc_open, finetalc_start,
     finetalc_status,
 };
-use transcript::Told;
 use std::test::*;
+use transcript::Told;
 
 const ISO6937: u32 = 1;
 

@@ -20,8 +20,8 @@ mod refusal;
 
 pub use record::{StatusRecord, TranscriptRecord};
 use refusal::CallRefusal;
-use transcript::{Done, Told};
 use std::alloc::Global;
+use transcript::{Done, Told};
 
 // Answers a call.
 fn tell(outcome: Result<Done, CallRefusal>, answer: &mut Told) -> bool

@@ -9,6 +9,7 @@ ghost use Rattle.c_interface.specs.Refusals.{call_told};
 use roll::UnknownForm;
 use std::alloc::AllocError;
 use std::num::TryFromIntError;
+use transcript::{Refusal, Told};
 
 #[derive(Clone, Copy, PartialEq, Eq, Debug)]
 pub enum CallRefusal {

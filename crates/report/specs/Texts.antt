@@ -2,6 +2,7 @@
 use Rattle.std.specs.Prelude.{◌≡◌, ℕ, ◌<◌, ◌≤◌, ◌⊎◌, List, [], length, Some, None, Ok, Err}
 use Rattle.std.specs.Prelude.{vec_items, Option, Result, ◌≢◌}
 use Rattle.charset.specs.Meaning.{Meaning}
+use Rattle.transcript.specs.declared.TheConstants.{LONGEST_SOURCE}
 use Rattle.sets.specs.Utf8.{utf8}
 use Rattle.conversion.specs.declared.Fault.{Fault}
 use Rattle.conversion.specs.declared.Fault.TheVariants.{Unwritten}
@@ -50,7 +51,7 @@ IsEmptyText form r t =
 abbrev pub IsPageText : ℕ → Page → (text : List ℕ) → (characters : ℕ) → Result (Unit {0}) RollFault
     → Type 0
 IsPageText n (Text f part at) text characters r =
-    ((length part.now ≤ 4294967296) × (o : Outcome) × TextIn (form_set f) part.now text characters o
+    ((length part.now ≤ LONGEST_SOURCE) × (o : Outcome) × TextIn (form_set f) part.now text characters o
     × (r ≡ on_page n o))
-    ⊎ ((4294967296 < length part.now) × (text ≡ []) × (characters ≡ 0) × (r ≡ Err (Refused WrongSize)))
+    ⊎ ((LONGEST_SOURCE < length part.now) × (text ≡ []) × (characters ≡ 0) × (r ≡ Err (Refused WrongSize)))
 IsPageText n (Picture part at) text characters r = (text ≡ []) × (characters ≡ 0) × (r ≡ Ok tt)

@@ -2,6 +2,7 @@
 use Rattle.std.specs.Prelude.{◌≡◌, ℕ, ◌+◌, ◌-◌, cond, List, [], ◌∷◌, ◌++◌, length, drop, Some, None}
 use Rattle.std.specs.Prelude.{Ok, Err, Option, Result, nat_lt}
 use Rattle.charset.specs.Meaning.{Meaning}
+use Rattle.transcript.specs.declared.TheConstants.{LONGEST_SECTOR, LONGEST_OUTPUT, LONGEST_SOURCE}
 use Rattle.conversion.specs.declared.Fault.{Fault}
 use Rattle.conversion.specs.declared.Fault.TheVariants.{Unfinished}
 use Rattle.conversion.specs.declared.Pause.TheVariants as pause
@@ -55,9 +56,9 @@ fault_at f o n w = record { fault = f; offset = o; done = done n w }
 -- the size limits, in their order
 abbrev pub limits : ℕ → List ℕ → List ℕ → Option Refusal
 limits taken sector out =
-    cond (nat_lt 4096 (length sector)) (Some refusal.SectorTooLong)
-    (cond (nat_lt 65536 (length out)) (Some refusal.OutputTooLong)
-    (cond (nat_lt 4294967296 (taken + length sector)) (Some refusal.SourceTooLong) None))
+    cond (nat_lt LONGEST_SECTOR (length sector)) (Some refusal.SectorTooLong)
+    (cond (nat_lt LONGEST_OUTPUT (length out)) (Some refusal.OutputTooLong)
+    (cond (nat_lt LONGEST_SOURCE (taken + length sector)) (Some refusal.SourceTooLong) None))
 
 -- the refusals that change nothing, in their order
 abbrev pub refused : State → ℕ → List ℕ → List ℕ → Option Refusal

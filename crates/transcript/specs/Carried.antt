@@ -1,5 +1,6 @@
 -- What carrying out a use of a transcript on a text comes to.
-use Rattle.std.specs.Prelude.{◌≡◌, ℕ, ◌⊎◌, List, [], ◌∷◌, length, Some, None, Ok, Err, Option}
+use Rattle.std.specs.Prelude.{vec_items, ◌≡◌, ℕ, ◌⊎◌, List, [], ◌∷◌, length, Some, None, Ok, Err}
+use Rattle.std.specs.Prelude.{Option}
 use Rattle.std.specs.Prelude.{Result}
 use Rattle.charset.specs.Meaning.{Meaning}
 use Rattle.conversion.specs.declared.Fault.{Fault}
@@ -8,6 +9,8 @@ use Rattle.transcript.specs.declared.answers.Refusal.{Refusal}
 use Rattle.transcript.specs.declared.answers.Refusal.TheVariants as refusal
 use Rattle.transcript.specs.declared.answers.State.TheVariants as state
 use Rattle.transcript.specs.declared.answers.Status.{Status}
+use Rattle.transcript.specs.declared.transcription.Transcription.{Transcription}
+use Rattle.conversion.specs.Transcribed.{TheTranscript}
 use Rattle.transcript.specs.Calls.{Snapshot, OfferAnswer}
 use Rattle.transcript.specs.Uses.{Event, start, offer, close, status, Use, taken_in, written_in}
 use Rattle.transcript.specs.Law.{Feeds}
@@ -69,3 +72,13 @@ pub record CarriedOut (S T : Meaning) (bytes text : List ℕ) (characters : ℕ)
   pub ended : Ended bytes offers events last outcome told
   pub text_is : text ≡ written_in events
   pub characters_is : characters ≡ told.characters
+
+-- a text of so many characters and an outcome are what the bytes are in another set: the characters
+-- up to the end or a fault, and no other, by a use of a transcript
+pub record IsTranscription (S T : Meaning) (bytes text : List ℕ) (characters : ℕ) (o : Outcome)
+    : Type 0 where
+  pub the_transcript : TheTranscript S T bytes text characters (offset_in bytes o) (fault_in o)
+  pub carried_out : CarriedOut S T bytes text characters o
+
+abbrev pub Transcribes : Meaning → Meaning → List ℕ → Transcription → Type 0
+Transcribes S T bytes p = IsTranscription S T bytes (vec_items p.text) p.characters p.outcome

@@ -1,19 +1,20 @@
 -- When a text is too long for a transcript, and how it is said.
 use Rattle.std.specs.Prelude.{ℕ, ◌<◌, ◌≤◌, List, length, Ok, Err, codes, Result}
+use Rattle.transcript.specs.declared.TheConstants.{LONGEST_SOURCE}
 use Rattle.transcript.specs.declared.transcription.Failure.{Failure}
 use Rattle.transcript.specs.declared.transcription.Failure.TheVariants.{NoMemory, TooLong}
 
 -- it is refused as too long exactly when it is
 abbrev pub IsTooLong : {X : Type 0} → List ℕ → Result X Failure → Type 0
-IsTooLong bytes (Ok p) = length bytes ≤ 4294967296
-IsTooLong bytes (Err NoMemory) = length bytes ≤ 4294967296
-IsTooLong bytes (Err TooLong) = 4294967296 < length bytes
+IsTooLong bytes (Ok p) = length bytes ≤ LONGEST_SOURCE
+IsTooLong bytes (Err NoMemory) = length bytes ≤ LONGEST_SOURCE
+IsTooLong bytes (Err TooLong) = LONGEST_SOURCE < length bytes
 
 -- the same where memory may be wanting before that is looked at
 abbrev pub IsTooLongOrWanting : {X : Type 0} → List ℕ → Result X Failure → Type 0
-IsTooLongOrWanting bytes (Ok p) = length bytes ≤ 4294967296
+IsTooLongOrWanting bytes (Ok p) = length bytes ≤ LONGEST_SOURCE
 IsTooLongOrWanting bytes (Err NoMemory) = Unit {0}
-IsTooLongOrWanting bytes (Err TooLong) = 4294967296 < length bytes
+IsTooLongOrWanting bytes (Err TooLong) = LONGEST_SOURCE < length bytes
 
 abbrev pub message : Failure → List ℕ
 message NoMemory = codes "out of memory"

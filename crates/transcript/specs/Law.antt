@@ -3,6 +3,7 @@ use Rattle.std.specs.Prelude.{◌≡◌, ℕ, ◌≤◌, ◌⊎◌, List, [], �
 use Rattle.std.specs.Prelude.{◌≢◌}
 use Rattle.charset.specs.Meaning.{Meaning}
 use Rattle.charset.specs.Decoding.{Spells, Decodes}
+use Rattle.transcript.specs.declared.TheConstants.{LONGEST_SOURCE}
 use Rattle.conversion.specs.declared.Fault.TheVariants.{Unread, Unwritten}
 use Rattle.conversion.specs.declared.Pause.TheVariants as pause
 use Rattle.conversion.specs.Stops.{End, Reaches}
@@ -122,7 +123,7 @@ AllFaultless (e ∷ past) = Faultless e × AllFaultless past
 abbrev pub GoesBack : Meaning → Meaning → Type 0
 GoesBack S T =
     (past : List Event) (s t : Snapshot) → Use S T past s → s.state ≡ Open
-    → Step S T s (close (Ok tt)) t → length (written_in past) ≤ 4294967296
+    → Step S T s (close (Ok tt)) t → length (written_in past) ≤ LONGEST_SOURCE
     → (again : List Event) (u : Snapshot) → Use T S again u → Feeds (written_in past) again
     → AllFaultless again × (taken_in again ≡ written_in past
     → ((r : CloseAnswer) (v : Snapshot) → Step T S u (close r) v → r ≡ Ok tt)

@@ -7,3 +7,4 @@ pub mod Law
 pub mod Stacks
 pub mod Carried
 pub mod Failures
+pub mod Transcripts

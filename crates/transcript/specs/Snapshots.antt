@@ -1,6 +1,7 @@
 -- The progress of a transcript as a snapshot, and how it moves on.
 use Rattle.std.specs.Prelude.{◌≡◌, ℕ, zero, suc, ◌+◌, ◌*◌, ◌≤◌, List, [], ◌++◌, length, drop, Some}
 use Rattle.std.specs.Prelude.{None, Option, Ok, Err, Result}
+use Rattle.transcript.specs.declared.TheConstants.{LONGEST_SOURCE}
 use Rattle.conversion.specs.declared.Pause.TheVariants as pause
 use Rattle.conversion.specs.declared.Run.{Run}
 use Rattle.transcript.specs.declared.answers.Refusal.{Refusal}
@@ -27,7 +28,7 @@ pub record Counts (s : Snapshot) : Type 0 where
   pub read_most : s.taken ≤ 4 * s.characters + length s.held
   pub written_least : s.characters ≤ s.written
   pub written_most : s.written ≤ 4 * s.characters
-  pub limit : s.taken ≤ 4294967296
+  pub limit : s.taken ≤ LONGEST_SOURCE
 
 -- the snapshot of which a status was told while these bytes were held
 abbrev pub told_with : Status → List ℕ → Snapshot
@@ -63,7 +64,7 @@ pub record Possible (s : Snapshot) (sector : List ℕ) (run : Run) : Type 0 wher
   pub one_written_each : run.characters ≤ run.written
   pub four_written_each : run.written ≤ 4 * run.characters
   pub opening : run.end ≡ Ok pause.Open → length (drop run.read (s.held ++ sector)) ≤ 3
-  pub limit : s.taken + length sector ≤ 4294967296
+  pub limit : s.taken + length sector ≤ LONGEST_SOURCE
 
 -- the answer and the next snapshot, for characters of these lengths
 pub record Settles (s : Snapshot) (sector : List ℕ) (run : Run) (r : OfferAnswer)

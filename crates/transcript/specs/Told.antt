@@ -4,8 +4,10 @@ use Rattle.conversion.specs.declared.Fault.{Fault}
 use Rattle.conversion.specs.declared.Fault.TheVariants.{Unread, Unwritten, Unfinished}
 use Rattle.transcript.specs.declared.answers.Done.{Done}
 use Rattle.transcript.specs.declared.answers.Refusal.{Refusal}
-use Rattle.transcript.specs.declared.answers.Refusal.TheVariants.{SectorTooLong, OutputTooLong, SourceTooLong}
-use Rattle.transcript.specs.declared.answers.Refusal.TheVariants.{Standing, AlreadyClosed, Faulted, Full}
+use Rattle.transcript.specs.declared.answers.Refusal.TheVariants.{SectorTooLong, OutputTooLong}
+use Rattle.transcript.specs.declared.answers.Refusal.TheVariants.{SourceTooLong}
+use Rattle.transcript.specs.declared.answers.Refusal.TheVariants.{Standing, AlreadyClosed, Faulted}
+use Rattle.transcript.specs.declared.answers.Refusal.TheVariants.{Full}
 use Rattle.transcript.specs.declared.answers.Told.{Told}
 
 -- a number with what an offer took and wrote, and a number alone

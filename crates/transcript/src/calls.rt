@@ -1,10 +1,7 @@
 // The calls of a transcript.
 ghost use Rattle.std.specs.Prelude.{◌≡◌};
-ghost use Rattle.charset.specs.Sets.{set_of};
-ghost use Rattle.transcript.specs.Calls.{fresh, limits, OfferedIf, status_of};
-ghost use Rattle.transcript.specs.Snapshots.{snapshot};
-ghost use Rattle.transcript.specs.Uses.{start, offer, close, Step};
-ghost use Rattle.transcript.specs.Called.{Called};
+ghost use Rattle.transcript.specs.Calls.{fresh, status_of};
+ghost use Rattle.transcript.specs.Uses.{start, offer, close};
 
 use crate::answers::{Answer, Done, Refusal, State, Status};
 use crate::progress::Progress;
@@ -31,10 +28,11 @@ pub enum Call<'a> {
 }
 
 impl<S: CharacterSet, T: CharacterSet> Transcript<S, T> {
+    ghost use Rattle.transcript.specs.Transcripts.{come_to, Between, Steps, Calls, Feeds};
+
     // A transcript that is started.
     pub fn new(source: S, target: T) -> Transcript<S, T>
-        ensures same_sets { (result.converter.sets.source ≡ source) × (result.converter.sets.target ≡ target) }
-        ensures starts { snapshot result.progress ≡ fresh }
+        ensures { Between source target fresh result }
     {
         Transcript {
             converter: Converter::new(source, target),
@@ -44,8 +42,7 @@ impl<S: CharacterSet, T: CharacterSet> Transcript<S, T> {
 
     // The work of an offer to an open transcript.
     fn feed(&mut self, sector: &[u8], output: &mut [u8]) -> Result<Done, Refusal>
-        ensures same_sets { (self.new.converter.sets.source ≡ self.old.converter.sets.source) × (self.new.converter.sets.target ≡ self.old.converter.sets.target) }
-        ensures steps { OfferedIf (limits self.old.progress.taken sector.now output.old) (set_of S.CharacterSet self.old.converter.sets.source) (set_of T.CharacterSet self.old.converter.sets.target) (snapshot self.old.progress) sector.now output.old result output.new (snapshot self.new.progress) }
+        ensures { Feeds self.old sector.now output.old result output.new self.new }
     {
         self.progress.within_limits(sector, output)?;
         let run = self.converter.convert(self.progress.held, sector, output);
@@ -54,8 +51,7 @@ impl<S: CharacterSet, T: CharacterSet> Transcript<S, T> {
 
     // One call, by the state of the transcript: one match shows for each state what each call does.
     pub fn call(&mut self, call: Call) -> Result<Answer, Refusal>
-        ensures same_sets { (self.new.converter.sets.source ≡ self.old.converter.sets.source) × (self.new.converter.sets.target ≡ self.old.converter.sets.target) }
-        ensures steps { Called (set_of S.CharacterSet self.old.converter.sets.source) (set_of T.CharacterSet self.old.converter.sets.target) (snapshot self.old.progress) call.entry (snapshot self.new.progress) call.exit result }
+        ensures { Calls self.old call.entry self.new call.exit result }
     {
         match (self.progress.state, call) {
             (_, Call::Start) => {
@@ -79,8 +75,7 @@ impl<S: CharacterSet, T: CharacterSet> Transcript<S, T> {
 
     // Starts again, and forgets all before.
     pub fn start(&mut self)
-        ensures same_sets { (self.new.converter.sets.source ≡ self.old.converter.sets.source) × (self.new.converter.sets.target ≡ self.old.converter.sets.target) }
-        ensures steps { Step (set_of S.CharacterSet self.old.converter.sets.source) (set_of T.CharacterSet self.old.converter.sets.target) (snapshot self.old.progress) start (snapshot self.new.progress) }
+        ensures { Steps self.old start self.new }
     {
         let _ = self.call(Call::Start);
     }
@@ -88,8 +83,7 @@ impl<S: CharacterSet, T: CharacterSet> Transcript<S, T> {
     // Reads the held bytes and then the sector from the front, and writes each character behind the
     // one before.
     pub fn offer(&mut self, sector: &[u8], output: &mut [u8]) -> Result<Done, Refusal>
-        ensures same_sets { (self.new.converter.sets.source ≡ self.old.converter.sets.source) × (self.new.converter.sets.target ≡ self.old.converter.sets.target) }
-        ensures steps { Step (set_of S.CharacterSet self.old.converter.sets.source) (set_of T.CharacterSet self.old.converter.sets.target) (snapshot self.old.progress) (offer sector.now output.old result output.new) (snapshot self.new.progress) }
+        ensures { Steps self.old (offer sector.now output.old result output.new) self.new }
     {
         let Answer::Offered(done) = self.call(Call::Offer { sector, output })? else {
             unreachable!()
@@ -99,8 +93,7 @@ impl<S: CharacterSet, T: CharacterSet> Transcript<S, T> {
 
     // Closes, unless bytes are held.
     pub fn close(&mut self) -> Result<(), Refusal>
-        ensures same_sets { (self.new.converter.sets.source ≡ self.old.converter.sets.source) × (self.new.converter.sets.target ≡ self.old.converter.sets.target) }
-        ensures steps { Step (set_of S.CharacterSet self.old.converter.sets.source) (set_of T.CharacterSet self.old.converter.sets.target) (snapshot self.old.progress) (close result) (snapshot self.new.progress) }
+        ensures { Steps self.old (close result) self.new }
     {
         self.call(Call::Close)?;
         Ok(())
@@ -108,7 +101,7 @@ impl<S: CharacterSet, T: CharacterSet> Transcript<S, T> {
 
     // What it has come to since the start.
     pub fn status(&self) -> Status
-        ensures { result ≡ status_of (snapshot self.now.progress) }
+        ensures { result ≡ status_of (come_to self.now) }
     {
         self.progress.status()
     }

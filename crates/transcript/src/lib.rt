@@ -1,5 +1,5 @@
-// A transcript: text from one character set into another, sector by sector, with what it answers and
-// what it counts; and a whole text by the use of one.
+// A transcript: text from one character set into another, sector by sector, with what it answers
+// and what it counts; and a whole text by the use of one.
 #![tactic(auto)]
 
 mod answers;

@@ -1,6 +1,7 @@
 // How far a transcript has come since it was started: its state, what it has counted, and the bytes
 // it holds.
 ghost use Rattle.std.specs.Prelude.{◌+◌, ◌*◌, ◌≤◌, length};
+ghost use Rattle.transcript.specs.declared.TheConstants.{LONGEST_SOURCE};
 
 use crate::answers::{Done, FaultAt, Refusal, State, Status};
 use crate::{LONGEST_OUTPUT, LONGEST_SECTOR, LONGEST_SOURCE};
@@ -18,7 +19,7 @@ pub struct Progress {
     ghost read_most: { taken ≤ 4 * characters + length held },
     ghost written_least: { characters ≤ written },
     ghost written_most: { written ≤ 4 * characters },
-    ghost limited: { taken ≤ 4294967296 },
+    ghost limited: { taken ≤ LONGEST_SOURCE },
 }
 
 impl Progress {

@@ -1,6 +1,7 @@
 // Where a transcript is put down and taken up again.
 ghost use Rattle.std.specs.Prelude.{◌≡◌};
 ghost use Rattle.transcript.specs.Snapshots.{snapshot, Restored};
+ghost use Rattle.transcript.specs.Transcripts.{come_to, Between};
 
 use crate::LONGEST_SOURCE;
 use crate::answers::Status;
@@ -54,8 +55,7 @@ impl Progress {
 impl<S: CharacterSet, T: CharacterSet> Transcript<S, T> {
     // A transcript that goes on from where one came to.
     pub fn resume(source: S, target: T, progress: Progress) -> Transcript<S, T>
-        ensures same_sets { (result.converter.sets.source ≡ source) × (result.converter.sets.target ≡ target) }
-        ensures resumes { snapshot result.progress ≡ snapshot progress }
+        ensures { Between source target (snapshot progress) result }
     {
         Transcript {
             converter: Converter::new(source, target),
@@ -65,7 +65,7 @@ impl<S: CharacterSet, T: CharacterSet> Transcript<S, T> {
 
     // How far it has come, without the sets: enough to resume it.
     pub fn progress(&self) -> Progress
-        ensures { snapshot result ≡ snapshot self.now.progress }
+        ensures { snapshot result ≡ come_to self.now }
     {
         self.progress
     }

@@ -6,9 +6,8 @@ ghost use Rattle.transcript.specs.declared.answers.Refusal.TheVariants.{Faulted}
 ghost use Rattle.transcript.specs.Stacks.{TheLaw};
 ghost use Rattle.transcript.specs.declared.transcription.Failure.TheVariants.{NoMemory};
 ghost use Rattle.transcript.specs.Failures.{IsTooLong, message};
-ghost use Rattle.transcript.specs.Snapshots.{snapshot};
-ghost use Rattle.transcript.specs.Carried.{fault_in, offset_in, CarriedOut};
-ghost use Rattle.conversion.specs.Transcribed.{TheTranscript};
+ghost use Rattle.transcript.specs.Transcripts.{come_to};
+ghost use Rattle.transcript.specs.Carried.{Transcribes};
 
 use crate::answers::{FaultAt, Refusal};
 use crate::calls::Transcript;
@@ -63,7 +62,7 @@ impl Transcription {
         outcome: Result<(), FaultAt>,
     ) -> Transcription
         ensures text { result.text ≡ text }
-        ensures characters { result.characters ≡ (snapshot transcript.now.progress).characters }
+        ensures characters { result.characters ≡ (come_to transcript.now).characters }
         ensures outcome { result.outcome ≡ outcome }
     {
         Transcription {
@@ -98,8 +97,8 @@ pub fn transcribe<S: CharacterSet + Drop, T: CharacterSet + Drop>(
     target: T,
     bytes: &[u8],
 ) -> Result<Transcription, Failure>
-    ensures transcript { IfOk result (λ p. TheTranscript (set_of S.CharacterSet source) (set_of T.CharacterSet target) bytes.now p.text.items p.characters (offset_in bytes.now p.outcome) (fault_in p.outcome)) }
-    ensures carried_out { IfOk result (λ p. CarriedOut (set_of S.CharacterSet source) (set_of T.CharacterSet target) bytes.now p.text.items p.characters p.outcome) }
+    ensures transcribed { IfOk result (Transcribes (set_of S.CharacterSet source)
+        (set_of T.CharacterSet target) bytes.now) }
     ensures too_long { IsTooLong bytes.now result }
     ensures the_law { TheLaw }
 {

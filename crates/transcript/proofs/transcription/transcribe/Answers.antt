@@ -74,7 +74,7 @@ at_offer g c =
     (chunks_rest c.next.new.self) (snapshot c.loop-sector.transcript.progress)
     (snapshot c.offer.new.self.progress) c.loop-sector.output c.offer.new.output
     c.offer.result i.3 i.4 i.6 steps.1.0 (omega (arith, steps.1.1, i.2))
-    c.if-bytes-gt-LONGEST_SOURCE.false i.5 c.offer.ensures.steps
+    c.if-bytes-gt-LONGEST_SOURCE.false i.5 c.offer.ensures.step
 
 -- the same, as the answer with its fault taken out says
 comes_out : (g : Over) (c : After-offer g) (r k : Result Done FaultAt)
@@ -98,7 +98,7 @@ loop-sector-init g c =
       refl,
       refl,
       refl,
-      rw (c.new-text.ensures.items, all) (along_none _ _ _ _ c.new-transcript.ensures.starts),
+      rw (c.new-text.ensures.items, all) (along_none _ _ _ _ c.new-transcript.ensures.has_come),
     )
 
 pub map_err-requires : goal.map_err-requires
@@ -119,8 +119,8 @@ loop-sector-preserved g c =
       search rules,
       tt,
       c.in-Some.ensures.steps.0 ∙ i.2,
-      sets.0 ∙ i.3,
-      sets.1 ∙ i.4,
+      sets.source ∙ i.3,
+      sets.target ∙ i.4,
       search rules,
       rw longer all,
     )
@@ -130,7 +130,7 @@ returns-in-Err g c =
     let m = g.S.CharacterSet in let n = g.T.CharacterSet in
     let x = c.new-transcript.result.converter.sets.source in let y =
     c.new-transcript.result.converter.sets.target in
-    let made = c.new-transcript.ensures.same_sets in
+    let made = c.new-transcript.ensures.has_sets in
     let f = c.in-Err.fault in
     let longer : vec_items c.extend_from_slice-in-Err.new.self ≡ vec_items c.loop-sector.text
     ++ take f.done.written c.offer.new.output =
@@ -138,13 +138,14 @@ returns-in-Err g c =
     let stopped = comes_out g (goal.at.returns-in-Err g c).After-offer c.map_err.result (Err f)
     (mapped c.offer.result c.map_err.result c.map_err.ensures.cases (λ q f p. p)) c.in-Err.is in
     let all = promised (λ x. set_of m x) (λ y. set_of n y) c.args.bytes.now
-    (vec_items c.extend_from_slice-in-Err.new.self) _ (Err f) made.0 made.1
+    (vec_items c.extend_from_slice-in-Err.new.self) _ (Err f) made.source made.target
     (after_fault (set_of m x) (set_of n y) (g.met.S.CharacterSet.lawful x) c.args.bytes.now
     (vec_items c.extend_from_slice-in-Err.new.self) f (snapshot c.offer.new.self.progress)
     (rw longer stopped)) in
     record {
-      transcript = rw (c.of.ensures.text, c.of.ensures.characters, c.of.ensures.outcome) all.0;
-      carried_out = rw (c.of.ensures.text, c.of.ensures.characters, c.of.ensures.outcome) all.1;
+      transcribed =
+          rw (c.of.ensures.text, c.of.ensures.characters, c.of.ensures.outcome)
+          (record { the_transcript = all.0; carried_out = all.1 });
       too_long = c.if-bytes-gt-LONGEST_SOURCE.false;
       the_law = the_law;
     }
@@ -155,25 +156,24 @@ returns g c =
     let x = c.new-transcript.result.converter.sets.source in let y =
     c.new-transcript.result.converter.sets.target in
     let i = c.loop-sector.invariant in
-    let made = c.new-transcript.ensures.same_sets in
+    let made = c.new-transcript.ensures.has_sets in
     let at_sets : Step (set_of m x) (set_of n y) (snapshot c.loop-sector.transcript.progress)
     (close c.close.result) (snapshot c.close.new.self.progress) =
     subst₂ (λ x y. Step (set_of m x) (set_of n y) (snapshot c.loop-sector.transcript.progress)
-    (close c.close.result) (snapshot c.close.new.self.progress)) i.3 i.4 c.close.ensures.steps in
+    (close c.close.result) (snapshot c.close.new.self.progress)) i.3 i.4 c.close.ensures.step in
     let as_closing = mapped c.close.result c.map_err-outcome.result c.map_err-outcome.ensures.cases
     (λ q f p. p) in
     let all = promised (λ x. set_of m x) (λ y. set_of n y) c.args.bytes.now
-    (vec_items c.loop-sector.text) _ c.map_err-outcome.result made.0 made.1
+    (vec_items c.loop-sector.text) _ c.map_err-outcome.result made.source made.target
     (after_closing (set_of m x) (set_of n y) (g.met.S.CharacterSet.lawful x) c.args.bytes.now
     (vec_items c.loop-sector.text) (chunks_rest c.loop-sector.sector-iterator)
     (snapshot c.loop-sector.transcript.progress) i.6
     (nil_from_length _ c.in-None.ensures.steps.1.0) (snapshot c.close.new.self.progress)
     c.close.result c.map_err-outcome.result at_sets as_closing) in
     record {
-      transcript =
-          rw (c.of-2.ensures.text, c.of-2.ensures.characters, c.of-2.ensures.outcome) all.0;
-      carried_out =
-          rw (c.of-2.ensures.text, c.of-2.ensures.characters, c.of-2.ensures.outcome) all.1;
+      transcribed =
+          rw (c.of-2.ensures.text, c.of-2.ensures.characters, c.of-2.ensures.outcome)
+          (record { the_transcript = all.0; carried_out = all.1 });
       too_long = c.if-bytes-gt-LONGEST_SOURCE.false;
       the_law = the_law;
     }

@@ -16,24 +16,36 @@ use Rattle.transcript.specs.Uses.{offer, Step}
 use Rattle.transcript.specs.Called.{offered}
 use Rattle.transcript.proofs.calls.Transcript.call.Goals as goal
 
-pub returns-in-Closed-default-clause-steps : goal.returns-in-Closed-default-clause-steps
-returns-in-Closed-default-clause-steps g c =
-    rw (c.in-Closed-default.is-1, c.in-Closed-default.is-0)
-    (Err AlreadyClosed, (refl, search rules, refl), refl)
+pub returns-in-Closed-default : goal.returns-in-Closed-default
+returns-in-Closed-default g c = record {
+  same_sets = search rules;
+  called =
+      rw (c.in-Closed-default.is-1, c.in-Closed-default.is-0)
+      (Err AlreadyClosed, (refl, search rules, refl), refl);
+}
 
-pub returns-in-Closed-default-2-clause-steps : goal.returns-in-Closed-default-2-clause-steps
-returns-in-Closed-default-2-clause-steps g c =
-    rw (c.in-Closed-default.is-1, c.in-Closed-default.is-0) (Err AlreadyClosed, (refl, refl), refl)
+pub returns-in-Closed-default-2 : goal.returns-in-Closed-default-2
+returns-in-Closed-default-2 g c = record {
+  same_sets = search rules;
+  called =
+      rw (c.in-Closed-default.is-1, c.in-Closed-default.is-0) (Err AlreadyClosed, (refl, refl), refl);
+}
 
-pub returns-in-Faulted-Offer-clause-steps : goal.returns-in-Faulted-Offer-clause-steps
-returns-in-Faulted-Offer-clause-steps g c =
-    rw (c.in-Faulted-Offer.is-1, c.in-Faulted-Offer.is-0)
-    (Err (Standing c.in-Faulted-Offer.fault), (refl, refl, refl), refl)
+pub returns-in-Faulted-Offer : goal.returns-in-Faulted-Offer
+returns-in-Faulted-Offer g c = record {
+  same_sets = search rules;
+  called =
+      rw (c.in-Faulted-Offer.is-1, c.in-Faulted-Offer.is-0)
+      (Err (Standing c.in-Faulted-Offer.fault), (refl, refl, refl), refl);
+}
 
-pub returns-in-Faulted-Close-clause-steps : goal.returns-in-Faulted-Close-clause-steps
-returns-in-Faulted-Close-clause-steps g c =
-    rw (c.in-Faulted-Close.is-1, c.in-Faulted-Close.is-0)
-    (Err (Standing c.in-Faulted-Close.fault), (refl, refl), refl)
+pub returns-in-Faulted-Close : goal.returns-in-Faulted-Close
+returns-in-Faulted-Close g c = record {
+  same_sets = search rules;
+  called =
+      rw (c.in-Faulted-Close.is-1, c.in-Faulted-Close.is-0)
+      (Err (Standing c.in-Faulted-Close.fault), (refl, refl), refl);
+}
 
 -- the work of an open transcript is the step of an offer
 offered_open : (S T : Meaning) (s t : Snapshot) (i o q p : List ℕ) (a : OfferAnswer)
@@ -53,14 +65,17 @@ made : (a : OfferAnswer) (r : Result Answer Refusal)
 made (Ok d) r h = h
 made (Err q) r h = h
 
-pub returns-in-Open-Offer-clause-steps : goal.returns-in-Open-Offer-clause-steps
-returns-in-Open-Offer-clause-steps g c =
-    let m = c.args.self.now in
-    let x = g.S.CharacterSet in let y = g.T.CharacterSet in
-    rw c.in-Open-Offer.is-1
-    (offered_open (set_of x m.converter.sets.source) (set_of y m.converter.sets.target)
-    (snapshot m.progress) (snapshot c.feed.new.self.progress) c.in-Open-Offer.sector.now
-    c.in-Open-Offer.output.now _ c.feed.new.output c.feed.result c.map.result
-    c.in-Open-Offer.is-0 c.feed.ensures.steps (search rules)
-    (made c.feed.result c.map.result (MatchResult-weaker c.feed.result c.map.ensures.cases
-    (λ x p. search rules) (λ y p. p))))
+pub returns-in-Open-Offer : goal.returns-in-Open-Offer
+returns-in-Open-Offer g c = record {
+  same_sets = search rules;
+  called =
+      let m = c.args.self.now in
+      let x = g.S.CharacterSet in let y = g.T.CharacterSet in
+      rw c.in-Open-Offer.is-1
+      (offered_open (set_of x m.converter.sets.source) (set_of y m.converter.sets.target)
+      (snapshot m.progress) (snapshot c.feed.new.self.progress) c.in-Open-Offer.sector.now
+      c.in-Open-Offer.output.now _ c.feed.new.output c.feed.result c.map.result
+      c.in-Open-Offer.is-0 c.feed.ensures.offered (search rules)
+      (made c.feed.result c.map.result (MatchResult-weaker c.feed.result c.map.ensures.cases
+      (λ x p. search rules) (λ y p. p))));
+}

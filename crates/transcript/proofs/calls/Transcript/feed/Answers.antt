@@ -1,3 +1,4 @@
+use Rattle.std.proofs.Common.{rules}
 use Rattle.charset.specs.Sets.{set_of}
 use Rattle.transcript.specs.Snapshots.{snapshot}
 use Rattle.transcript.proofs.Counting.{possible, offered_open}
@@ -13,13 +14,17 @@ settle-requires g c =
     (snapshot m.progress) c.args.sector.now c.args.output.now c.convert-run.new.output
     c.convert-run.result c.convert-run.ensures.runs c.in_ok-within_limits.ensures
 
-pub returns-clause-steps : goal.returns-clause-steps
-returns-clause-steps g c =
+pub returns : goal.returns
+returns g c =
     let m = c.args.self.now in
     let s = g.S.CharacterSet in let x = m.converter.sets.source in
     let t = g.T.CharacterSet in let y = m.converter.sets.target in
-    offered_open (set_of s x) (set_of t y) (g.met.S.CharacterSet.lawful x)
-    (g.met.T.CharacterSet.lawful y)
-    (snapshot m.progress) c.args.sector.now c.args.output.now c.convert-run.new.output
-    c.convert-run.result c.convert-run.ensures.runs c.in_ok-within_limits.ensures
-    c.settle.result (snapshot c.settle.new.self) c.settle.ensures
+    record {
+      same_sets = search rules;
+      offered =
+          offered_open (set_of s x) (set_of t y) (g.met.S.CharacterSet.lawful x)
+          (g.met.T.CharacterSet.lawful y)
+          (snapshot m.progress) c.args.sector.now c.args.output.now c.convert-run.new.output
+          c.convert-run.result c.convert-run.ensures.runs c.in_ok-within_limits.ensures
+          c.settle.result (snapshot c.settle.new.self) c.settle.ensures;
+    }

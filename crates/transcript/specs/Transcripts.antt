@@ -1,0 +1,58 @@
+-- A transcript as its two sets and how far it has come, and what a call makes of it.
+use Rattle.std.specs.Prelude.{◌≡◌, List, ℕ, Result}
+use Rattle.charset.specs.declared.CharacterSet.{Ghosts}
+use Rattle.charset.specs.Meaning.{Meaning}
+use Rattle.charset.specs.Sets.{set_of}
+use Rattle.transcript.specs.declared.answers.Answer.{Answer}
+use Rattle.transcript.specs.declared.answers.Refusal.{Refusal}
+use Rattle.transcript.specs.declared.calls.Call.{Call}
+use Rattle.transcript.specs.declared.calls.Transcript.{Transcript}
+use Rattle.transcript.specs.Calls.{Snapshot, OfferAnswer, fresh, limits, OfferedIf}
+use Rattle.transcript.specs.Called.{Called, Returned}
+use Rattle.transcript.specs.Snapshots.{snapshot}
+use Rattle.transcript.specs.Uses.{Event, Step}
+
+module _ {S T : Type 0} {g : Ghosts S} {h : Ghosts T} where
+  -- what its sets mean, and how far it has come
+  abbrev pub source_set : Transcript S T g h → Meaning
+  source_set t = set_of g t.converter.sets.source
+
+  abbrev pub target_set : Transcript S T g h → Meaning
+  target_set t = set_of h t.converter.sets.target
+
+  abbrev pub come_to : Transcript S T g h → Snapshot
+  come_to t = snapshot t.progress
+
+  -- it has these sets
+  pub record HasSets (from : S) (into : T) (t : Transcript S T g h) : Type 0 where
+    pub source : t.converter.sets.source ≡ from
+    pub target : t.converter.sets.target ≡ into
+
+  -- it has these sets, and has come so far
+  pub record Between (from : S) (into : T) (s : Snapshot) (t : Transcript S T g h)
+      : Type 0 where
+    pub has_sets : HasSets from into t
+    pub has_come : come_to t ≡ s
+
+  abbrev pub SameSets : (old new : Transcript S T g h) → Type 0
+  SameSets old new = HasSets old.converter.sets.source old.converter.sets.target new
+
+  -- a call with its buffers and its answer takes the transcript from old to new, and its sets stay
+  pub record Steps (old : Transcript S T g h) (e : Event) (new : Transcript S T g h)
+      : Type 0 where
+    pub same_sets : SameSets old new
+    pub step : Step (source_set old) (target_set old) (come_to old) e (come_to new)
+
+  -- the same of a call as one value, with the call as it is seen at the return
+  pub record Calls (old : Transcript S T g h) (call : Call) (new : Transcript S T g h)
+      (returned : Returned) (r : Result Answer Refusal) : Type 0 where
+    pub same_sets : SameSets old new
+    pub called : Called (source_set old) (target_set old) (come_to old) call
+        (come_to new) returned r
+
+  -- an offer to an open transcript
+  pub record Feeds (old : Transcript S T g h) (sector out : List ℕ) (r : OfferAnswer)
+      (after : List ℕ) (new : Transcript S T g h) : Type 0 where
+    pub same_sets : SameSets old new
+    pub offered : OfferedIf (limits old.progress.taken sector out)
+        (source_set old) (target_set old) (come_to old) sector out r after (come_to new)
