@@ -11,8 +11,8 @@ use Rattle.std.proofs.lemmas.List.{take_min as take_least}
 use Rattle.std.proofs.lemmas.Bool.{cases_lt, cases_order, both_ways, false_from_ne_true}
 use Rattle.charset.specs.declared.Reading.TheVariants.{Found, Open}
 use Rattle.charset.specs.Meaning.{Meaning, Codes, IsOpening, NoFront, Unreadable, Laws}
-use Rattle.charset.specs.Answers.{ReadAnswer, Reads, found, unread, look, reading, OnlyAnswer}
-use Rattle.charset.specs.Answers.{FourBytesDecide}
+use Rattle.charset.specs.Answers.{ReadAnswer, Reads, found_or, without_coding, look, reading}
+use Rattle.charset.specs.Answers.{OnlyAnswer, FourBytesDecide}
 
 -- an option of no value
 pub no_value : {A : Type 0} (o : Option A) → is_none o ≡ true → o ≡ None
@@ -41,7 +41,8 @@ alone m begins bare s c d n h k = elim (cases_lt n (length s)) [
 
 -- openings that begin with openings, none of them a coding, begin with no coding
 pub no_front_by : (m : Meaning) → ((s : List ℕ) (n : ℕ) → IsOpening m s → IsOpening m (take n s))
-    → ((s : List ℕ) (c : ℕ) → IsOpening m s → Codes m s c → ⊥) → (s : List ℕ) → IsOpening m s → NoFront m s
+    → ((s : List ℕ) (c : ℕ) → IsOpening m s → Codes m s c → ⊥) → (s : List ℕ) → IsOpening m s
+    → NoFront m s
 no_front_by m begins bare s o n c p = bare (take n s) c (begins s n o) p
 
 module _ {m : Meaning} (l : Laws m) where
@@ -63,13 +64,14 @@ module _ {m : Meaning} (l : Laws m) where
     | inr (inr h) ↦ absurd (not_before s j i d c hi h q p)
   ]
 
-  unread_reads : (s : List ℕ) (b : Bool) → m.openings s ≡ b → NoFront m s → Reads m s (unread m s)
-  unread_reads s true e h = rw e e
-  unread_reads s false e h = rw e ((h, e), refl)
+  without_coding_reads : (s : List ℕ) (b : Bool) → m.openings s ≡ b → NoFront m s
+      → Reads m s (without_coding m s)
+  without_coding_reads s true e h = rw e e
+  without_coding_reads s false e h = rw e ((h, e), refl)
 
   look_reads : (s : List ℕ) (k n : ℕ) → n + k ≡ 5 → ((j c : ℕ) → j < n → Codes m (take j s) c → ⊥)
       → Reads m s (look m s n k)
-  look_reads s zero n e none_yet = unread_reads s (m.openings s) refl never
+  look_reads s zero n e none_yet = without_coding_reads s (m.openings s) refl never
     where
       never : NoFront m s
       never j c p = elim (cases_lt j n) [
@@ -85,7 +87,7 @@ module _ {m : Meaning} (l : Laws m) where
     where
       go : (o : Option ℕ) → m.codings.character (take n s) ≡ o
           → (suc n + k ≡ 5 → ((j c : ℕ) → j < suc n → Codes m (take j s) c → ⊥)
-          → Reads m s (look m s (suc n) k)) → Reads m s (found o n (look m s (suc n) k))
+          → Reads m s (look m s (suc n) k)) → Reads m s (found_or o n (look m s (suc n) k))
       go None f more = more (omega arith) (λ j c h p. elim (cases_lt j n) [
         | inl g ↦ none_yet j c g p
         | inr g ↦ let j_is : j ≡ n = omega arith in none-some _ (sym f ∙ (rw j_is at p))
@@ -166,8 +168,8 @@ module _ {m : Meaning} (l : Laws m) where
       ]
 
   -- an answer other than "more is needed" stays whatever follows
-  pub answer_grows : (s : List ℕ) (n : ℕ) (r : ReadAnswer) → (r ≡ Ok Open → ⊥) → Reads m (take n s) r
-      → Reads m s r
+  pub answer_grows : (s : List ℕ) (n : ℕ) (r : ReadAnswer) → (r ≡ Ok Open → ⊥)
+      → Reads m (take n s) r → Reads m s r
   answer_grows s n (Ok (Found c k)) d h =
       let k_fits : k ≤ min n (length s) = rw (← length-take n s) h.0 in
       (omega arith, rw (← take-take k n s (omega arith)) h.1)
