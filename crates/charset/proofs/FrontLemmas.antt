@@ -7,7 +7,7 @@ use native.Mathlib.Nat.{zero-min, min-zero, suc-min-suc}
 use lib.Seq.{take-append-le, take-append_seam}
 use Rattle.std.specs.Option.{is_none}
 use Rattle.std.proofs.lemmas.Option.{none-some}
-use Rattle.std.proofs.lemmas.List.{take_min as take_least}
+use Rattle.std.proofs.lemmas.List.{take_min}
 use Rattle.std.proofs.lemmas.Bool.{cases_lt, cases_order, both_ways, false_from_ne_true}
 use Rattle.charset.specs.declared.Reading.TheVariants.{Found, Open}
 use Rattle.charset.specs.Meaning.{Meaning, Codes, IsOpening, NoFront, Unreadable, Laws}
@@ -20,11 +20,11 @@ no_value None e = refl
 no_value (Some x) e = cc
 
 -- a beginning of a beginning is a beginning
-pub take_min : {A : Type 0} (j n : ℕ) (s : List A) → take j (take n s) ≡ take (min j n) s
-take_min zero n s = rw zero-min
-take_min (suc j) zero s = rw min-zero
-take_min (suc j) (suc n) [] = rw suc-min-suc
-take_min (suc j) (suc n) (x ∷ s) = rw (suc-min-suc, take_min j n s)
+pub take-take_min : {A : Type 0} (j n : ℕ) (s : List A) → take j (take n s) ≡ take (min j n) s
+take-take_min zero n s = rw zero-min
+take-take_min (suc j) zero s = rw min-zero
+take-take_min (suc j) (suc n) [] = rw suc-min-suc
+take-take_min (suc j) (suc n) (x ∷ s) = rw (suc-min-suc, take-take_min j n s)
 
 take_all_of : {A : Type 0} (j n : ℕ) (s : List A) → n ≤ j → take j (take n s) ≡ take n s
 take_all_of j n s h = take_all j (take n s) (rw (length-take n s) (omega arith))
@@ -125,7 +125,7 @@ module _ {m : Meaning} (l : Laws m) where
   reading_is s r h = one_reading s (reading m s) r (reading_reads s) h
 
   no_front_begins : (s : List ℕ) (n : ℕ) → NoFront m s → NoFront m (take n s)
-  no_front_begins s n h j c p = h (min j n) c (rw take_min at p)
+  no_front_begins s n h j c p = h (min j n) c (rw take-take_min at p)
 
   -- reading looks at four bytes at most
   pub reading_four : (s : List ℕ) (n : ℕ) → 4 ≤ n → reading m (take n s) ≡ reading m s
@@ -164,7 +164,7 @@ module _ {m : Meaning} (l : Laws m) where
         | inl g ↦ both_ways _ h.1 (rw (take-take n j s (omega (arith, length-take j s))) at
             (l.coding_begins (take j s) c n p g))
         | inr g ↦ h.0 (length (take j s)) c
-            (rw (take-take (length (take j s)) n s g, length-take j s, take_least j s) p)
+            (rw (take-take (length (take j s)) n s g, length-take j s, take_min j s) p)
       ]
 
   -- an answer other than "more is needed" stays whatever follows
