@@ -7,12 +7,12 @@ use native.Mathlib.Nat.{zero-min, min-zero, suc-min-suc}
 use lib.Seq.{take-append-le, take-append_seam}
 use Rattle.std.specs.Option.{is_none}
 use Rattle.std.proofs.lemmas.Option.{none-some}
-use Rattle.std.proofs.lemmas.List.{take_min as take_least}
+use Rattle.std.proofs.lemmas.List.{take_min}
 use Rattle.std.proofs.lemmas.Bool.{cases_lt, cases_order, both_ways, false_from_ne_true}
 use Rattle.charset.specs.declared.Reading.TheVariants.{Found, Open}
 use Rattle.charset.specs.Meaning.{Meaning, Codes, IsOpening, NoFront, Unreadable, Laws}
-use Rattle.charset.specs.Answers.{ReadAnswer, Reads, found, unread, look, reading, OnlyAnswer}
-use Rattle.charset.specs.Answers.{FourBytesDecide}
+use Rattle.charset.specs.Answers.{ReadAnswer, Reads, found_or, without_coding, look, reading}
+use Rattle.charset.specs.Answers.{OnlyAnswer, FourBytesDecide}
 
 -- an option of no value
 pub no_value : {A : Type 0} (o : Option A) → is_none o ≡ true → o ≡ None
@@ -20,11 +20,11 @@ no_value None e = refl
 no_value (Some x) e = cc
 
 -- a beginning of a beginning is a beginning
-pub take_min : {A : Type 0} (j n : ℕ) (s : List A) → take j (take n s) ≡ take (min j n) s
-take_min zero n s = rw zero-min
-take_min (suc j) zero s = rw min-zero
-take_min (suc j) (suc n) [] = rw suc-min-suc
-take_min (suc j) (suc n) (x ∷ s) = rw (suc-min-suc, take_min j n s)
+pub take-take_min : {A : Type 0} (j n : ℕ) (s : List A) → take j (take n s) ≡ take (min j n) s
+take-take_min zero n s = rw zero-min
+take-take_min (suc j) zero s = rw min-zero
+take-take_min (suc j) (suc n) [] = rw suc-min-suc
+take-take_min (suc j) (suc n) (x ∷ s) = rw (suc-min-suc, take-take_min j n s)
 
 take_all_of : {A : Type 0} (j n : ℕ) (s : List A) → n ≤ j → take j (take n s) ≡ take n s
 take_all_of j n s h = take_all j (take n s) (rw (length-take n s) (omega arith))
@@ -41,7 +41,8 @@ alone m begins bare s c d n h k = elim (cases_lt n (length s)) [
 
 -- openings that begin with openings, none of them a coding, begin with no coding
 pub no_front_by : (m : Meaning) → ((s : List ℕ) (n : ℕ) → IsOpening m s → IsOpening m (take n s))
-    → ((s : List ℕ) (c : ℕ) → IsOpening m s → Codes m s c → ⊥) → (s : List ℕ) → IsOpening m s → NoFront m s
+    → ((s : List ℕ) (c : ℕ) → IsOpening m s → Codes m s c → ⊥) → (s : List ℕ) → IsOpening m s
+    → NoFront m s
 no_front_by m begins bare s o n c p = bare (take n s) c (begins s n o) p
 
 module _ {m : Meaning} (l : Laws m) where
@@ -63,13 +64,14 @@ module _ {m : Meaning} (l : Laws m) where
     | inr (inr h) ↦ absurd (not_before s j i d c hi h q p)
   ]
 
-  unread_reads : (s : List ℕ) (b : Bool) → m.openings s ≡ b → NoFront m s → Reads m s (unread m s)
-  unread_reads s true e h = rw e e
-  unread_reads s false e h = rw e ((h, e), refl)
+  without_coding_reads : (s : List ℕ) (b : Bool) → m.openings s ≡ b → NoFront m s
+      → Reads m s (without_coding m s)
+  without_coding_reads s true e h = rw e e
+  without_coding_reads s false e h = rw e ((h, e), refl)
 
   look_reads : (s : List ℕ) (k n : ℕ) → n + k ≡ 5 → ((j c : ℕ) → j < n → Codes m (take j s) c → ⊥)
       → Reads m s (look m s n k)
-  look_reads s zero n e none_yet = unread_reads s (m.openings s) refl never
+  look_reads s zero n e none_yet = without_coding_reads s (m.openings s) refl never
     where
       never : NoFront m s
       never j c p = elim (cases_lt j n) [
@@ -85,7 +87,7 @@ module _ {m : Meaning} (l : Laws m) where
     where
       go : (o : Option ℕ) → m.codings.character (take n s) ≡ o
           → (suc n + k ≡ 5 → ((j c : ℕ) → j < suc n → Codes m (take j s) c → ⊥)
-          → Reads m s (look m s (suc n) k)) → Reads m s (found o n (look m s (suc n) k))
+          → Reads m s (look m s (suc n) k)) → Reads m s (found_or o n (look m s (suc n) k))
       go None f more = more (omega arith) (λ j c h p. elim (cases_lt j n) [
         | inl g ↦ none_yet j c g p
         | inr g ↦ let j_is : j ≡ n = omega arith in none-some _ (sym f ∙ (rw j_is at p))
@@ -123,7 +125,7 @@ module _ {m : Meaning} (l : Laws m) where
   reading_is s r h = one_reading s (reading m s) r (reading_reads s) h
 
   no_front_begins : (s : List ℕ) (n : ℕ) → NoFront m s → NoFront m (take n s)
-  no_front_begins s n h j c p = h (min j n) c (rw take_min at p)
+  no_front_begins s n h j c p = h (min j n) c (rw take-take_min at p)
 
   -- reading looks at four bytes at most
   pub reading_four : (s : List ℕ) (n : ℕ) → 4 ≤ n → reading m (take n s) ≡ reading m s
@@ -162,12 +164,12 @@ module _ {m : Meaning} (l : Laws m) where
         | inl g ↦ both_ways _ h.1 (rw (take-take n j s (omega (arith, length-take j s))) at
             (l.coding_begins (take j s) c n p g))
         | inr g ↦ h.0 (length (take j s)) c
-            (rw (take-take (length (take j s)) n s g, length-take j s, take_least j s) p)
+            (rw (take-take (length (take j s)) n s g, length-take j s, take_min j s) p)
       ]
 
   -- an answer other than "more is needed" stays whatever follows
-  pub answer_grows : (s : List ℕ) (n : ℕ) (r : ReadAnswer) → (r ≡ Ok Open → ⊥) → Reads m (take n s) r
-      → Reads m s r
+  pub answer_grows : (s : List ℕ) (n : ℕ) (r : ReadAnswer) → (r ≡ Ok Open → ⊥)
+      → Reads m (take n s) r → Reads m s r
   answer_grows s n (Ok (Found c k)) d h =
       let k_fits : k ≤ min n (length s) = rw (← length-take n s) h.0 in
       (omega arith, rw (← take-take k n s (omega arith)) h.1)

@@ -73,8 +73,8 @@ module _ {m : Meaning} (l : Laws m) where
       ]
 
   -- an opening has no characters in front
-  nothing_more : (es e cs ds h k : List ℕ) → ds ≡ cs ++ es → Spells m es e → h ≡ e ++ k → IsOpening m h
-      → (cs ≡ ds) × (h ≡ k)
+  nothing_more : (es e cs ds h k : List ℕ) → ds ≡ cs ++ es → Spells m es e → h ≡ e ++ k
+      → IsOpening m h → (cs ≡ ds) × (h ≡ k)
   nothing_more [] e cs ds h k g p f o = (sym (g ∙ append-nil cs), f ∙ ap (λ t. t ++ k) p)
   nothing_more (c ∷ es) e cs ds h k g p f o =
       absurd (l.opening_bare h o (length p.0) c

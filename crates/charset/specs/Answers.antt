@@ -20,20 +20,21 @@ abbrev pub Writes : Meaning → ℕ → Option (List ℕ) → Type 0
 Writes m c r = r ≡ m.codings.string c
 
 -- r, unless a character of length n is found
-abbrev pub found : Option ℕ → ℕ → ReadAnswer → ReadAnswer
-found None n r = r
-found (Some c) n r = Ok (Found c n)
+abbrev pub found_or : Option ℕ → ℕ → ReadAnswer → ReadAnswer
+found_or None n r = r
+found_or (Some c) n r = Ok (Found c n)
 
 -- the answer of a string with no coding in front
-abbrev pub unread : Meaning → List ℕ → ReadAnswer
-unread m s = cond (m.openings s) (Ok Open) (Err (m.causes s))
+abbrev pub without_coding : Meaning → List ℕ → ReadAnswer
+without_coding m s = cond (m.openings s) (Ok Open) (Err (m.causes s))
 
--- the same answer by a search: the shortest coding in front of at least n bytes and fewer than n +
--- k, else what s is
+-- the answer by a search: the shortest coding in front of at least n bytes and fewer than n + k,
+-- else what s is
 abbrev pub look : Meaning → List ℕ → ℕ → ℕ → ReadAnswer
-look m s n zero = unread m s
-look m s n (suc k) = found (m.codings.character (take n s)) n (look m s (suc n) k)
+look m s n zero = without_coding m s
+look m s n (suc k) = found_or (m.codings.character (take n s)) n (look m s (suc n) k)
 
+-- the answer to reading s: a coding has one to four bytes
 unfoldable pub reading : Meaning → List ℕ → ReadAnswer
 reading m s = look m s 1 4
 

@@ -4,3 +4,4 @@ pub mod Meaning
 pub mod Answers
 pub mod Decoding
 pub mod Sets
+pub mod Laws

@@ -20,6 +20,11 @@ pub record Meaning : Type 0 where
 abbrev pub meaning : Codings → (List ℕ → Bool) → (List ℕ → SetRefusal) → Meaning
 meaning k o q = record { codings = k; openings = o; causes = q }
 
+-- the meaning of x, by what says each part of it
+abbrev pub meaning_of : {X : Type 0} → (X → Codings) → (X → List ℕ → Bool)
+    → (X → List ℕ → SetRefusal) → X → Meaning
+meaning_of k o q x = meaning (k x) (o x) (q x)
+
 -- s is the coding of c
 abbrev pub Codes : Meaning → List ℕ → ℕ → Type 0
 Codes m s c = m.codings.character s ≡ Some c

@@ -1,6 +1,5 @@
 -- A byte string in four places, with 0 behind it.
-use Rattle.std.specs.Prelude.{◌≡◌, ℕ, ◌-◌, ◌≤◌, List, ◌++◌, length, take, drop, replicate}
-use Rattle.std.proofs.Common.{arith, length-take-le, take-append-drop}
+use Rattle.std.specs.Prelude.{◌≡◌, ℕ, ◌-◌, ◌≤◌, List, ◌++◌, length, drop, replicate}
 
 -- the first n places are the string, and the others hold 0
 pub record Padded (places : List ℕ) (n : ℕ) : Type 0 where
@@ -11,9 +10,3 @@ pub record Padded (places : List ℕ) (n : ℕ) : Type 0 where
 -- the string in its places again
 abbrev pub padded : List ℕ → List ℕ
 padded s = s ++ replicate (4 - length s) 0
-
-pub size_back : (places : List ℕ) (n : ℕ) → Padded places n → length (take n places) ≡ n
-size_back places n h = length-take-le n places (omega (arith, h.few, h.four))
-
-pub places_back : (places : List ℕ) (n : ℕ) → Padded places n → padded (take n places) ≡ places
-places_back places n h = rw (size_back places n h, ← h.zeros) (take-append-drop n places)

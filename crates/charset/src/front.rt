@@ -16,7 +16,8 @@ pub struct Front {
 impl Model for Front {
     ghost use Rattle.std.specs.Prelude.{ℕ, List, take, length};
     ghost use Rattle.std.proofs.Common.{ap₂};
-    ghost use Rattle.charset.specs.Padding.{Padded, padded, places_back, size_back};
+    ghost use Rattle.charset.specs.Padding.{Padded, padded};
+    ghost use Rattle.charset.specs.Laws.Padding.{places_back, size_back};
 
     ghost Value = { List ℕ };
 
@@ -26,7 +27,8 @@ impl Model for Front {
 
     ghost inverse = { λ s. record { bytes = padded s; len = length s } };
 
-    ghost inverse_ok = { λ f h. ap₂ (λ b n. record { bytes = b; len = n }) (places_back f.bytes f.len h) (size_back f.bytes f.len h) };
+    ghost inverse_ok = { λ f h. ap₂ (λ b n. record { bytes = b; len = n })
+        (places_back f.bytes f.len h) (size_back f.bytes f.len h) };
 }
 
 impl Front {

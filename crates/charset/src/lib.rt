@@ -4,7 +4,7 @@
 
 ghost use Rattle.std.specs.Prelude.{ℕ, Bool, List};
 ghost use Rattle.charset.specs.declared.SetRefusal.{SetRefusal};
-ghost use Rattle.charset.specs.Meaning.{Codings, meaning, Laws};
+ghost use Rattle.charset.specs.Meaning.{Codings, meaning_of, Laws};
 ghost use Rattle.charset.specs.Answers.{Reads, Writes};
 
 mod by_laws;
@@ -44,11 +44,11 @@ pub trait CharacterSet {
 
     // What stands in front of the bytes: a character's coding, or an opening alone; else the cause.
     fn read(&self, bytes: &[u8]) -> Result<Reading, SetRefusal>
-        ensures { Reads (meaning (codings self.now) (openings self.now) (causes self.now)) bytes.now result };
+        ensures { Reads (meaning_of codings openings causes self.now) bytes.now result };
 
     // The coding of the character of that number, if it has one.
     fn write(&self, number: u32) -> Option<Coding>
-        ensures { Writes (meaning (codings self.now) (openings self.now) (causes self.now)) number result };
+        ensures { Writes (meaning_of codings openings causes self.now) number result };
 
-    ghost lawful: { (s : Self) → Laws (meaning (codings s) (openings s) (causes s)) };
+    ghost lawful: { (s : Self) → Laws (meaning_of codings openings causes s) };
 }

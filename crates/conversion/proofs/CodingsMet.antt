@@ -12,7 +12,7 @@ use Rattle.conversion.specs.declared.met.Met.{Met}
 use Rattle.conversion.specs.declared.met.MetCodings.{MetCodings}
 use Rattle.conversion.specs.Becomes.{becomes}
 use Rattle.conversion.specs.Next.{ComesNext}
-use Rattle.conversion.specs.Met.{if_this, found_in, KeptIn, Kept, Right}
+use Rattle.conversion.specs.Met.{if_this, found_in, kept_with, KeptIn, Kept, Right}
 
 -- what is found is kept
 pub found_kept : {N : ℕ} (kept : List (Option (Met N))) (place : ℕ) (s v : List ℕ)
@@ -75,8 +75,7 @@ set_gives l i j a q e = elim (cases_eq j i) [
 pub right_besides : {N : ℕ} (S T : Meaning) (kept : List (Option (Met N))) (place : ℕ)
     (b w : List ℕ) → becomes S T b ≡ Some w
     → ((s v : List ℕ) → KeptIn kept s v → becomes S T s ≡ Some v)
-    → (s v : List ℕ) → KeptIn (slice_set kept place (Some (record { bytes = b; coding = w }))) s v
-    → becomes S T s ≡ Some v
+    → (s v : List ℕ) → KeptIn (kept_with kept place b w) s v → becomes S T s ≡ Some v
 right_besides S T kept place b w right before s v k = elim (set_gives kept place k.0 _ _ k.1) [
   | inl e ↦ before s v (k.0, e)
   | inr e ↦ ap (becomes S T) (sym (ap (λ m. m.bytes) e)) ∙ right ∙ ap (λ m. Some m.coding) e

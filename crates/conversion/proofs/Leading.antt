@@ -4,29 +4,30 @@ use Rattle.std.proofs.Common.{Some, None, Ok, Err, Option, sym, refl, ap, ◌∙
 use Rattle.std.proofs.Common.{append_assoc, append-nil, arith, length-append, take-append-drop}
 use lib.Seq.{take-append_seam}
 use Rattle.std.proofs.lemmas.Bool.{lt-ltb, le-ltb}
-use Rattle.charset.specs.declared.Reading.TheVariants as reading
+use Rattle.charset.specs.declared.Reading.TheVariants.{Found, Open}
 use Rattle.charset.specs.Meaning.{Meaning, Codes, Laws}
 use Rattle.charset.specs.Answers.{ReadAnswer, Reads, reading}
 use Rattle.charset.specs.Decoding.{Spells}
 use Rattle.charset.proofs.FrontLemmas.{reading_is}
 use Rattle.charset.proofs.Spelling.{spells_append, spells_split, spells_one, fronts}
 use Rattle.conversion.specs.declared.Fault.TheVariants.{Unread, Unwritten, Unfinished}
-use Rattle.conversion.specs.declared.Pause.TheVariants.{Open, Full}
+use Rattle.conversion.specs.declared.Pause.TheVariants as pause
 use Rattle.conversion.specs.Stops.{End, Leads, Stops, Reaches}
 
--- what comes next: a coding is written, or there is an end
-data Next : Type 0 where
-  writes : List ℕ → Next
-  halts : End → Next
+-- what happens next: a coding is written, or there is an end
+data Outcome : Type 0 where
+  writes : List ℕ → Outcome
+  halts : End → Outcome
 
-abbrev coded_next : ℕ → Option (List ℕ) → ℕ → ℕ → Next
-coded_next c None used room = halts (Err (Unwritten c))
-coded_next c (Some v) used room = cond (ltb room (used + length v)) (halts (Ok Full)) (writes v)
+abbrev coded_outcome : ℕ → Option (List ℕ) → ℕ → ℕ → Outcome
+coded_outcome c None used room = halts (Err (Unwritten c))
+coded_outcome c (Some v) used room =
+    cond (ltb room (used + length v)) (halts (Ok pause.Full)) (writes v)
 
-abbrev next : Meaning → ReadAnswer → ℕ → ℕ → Next
-next T (Ok (reading.Found c n)) used room = coded_next c (T.codings.string c) used room
-next T (Ok reading.Open) used room = halts (Ok Open)
-next T (Err q) used room = halts (Err (Unread q))
+abbrev outcome : Meaning → ReadAnswer → ℕ → ℕ → Outcome
+outcome T (Ok (Found c n)) used room = coded_outcome c (T.codings.string c) used room
+outcome T (Ok Open) used room = halts (Ok pause.Open)
+outcome T (Err q) used room = halts (Err (Unread q))
 
 module _ (S T : Meaning) (l : Laws S) where
   pub leads_none : (input : List ℕ) (room : ℕ) → Leads S T input room [] [] [] input
@@ -34,7 +35,7 @@ module _ (S T : Meaning) (l : Laws S) where
 
   -- one more character that fits
   pub leads_more : (input cs source target rest v : List ℕ) (room c n : ℕ)
-      → Leads S T input room cs source target rest → Reads S rest (Ok (reading.Found c n))
+      → Leads S T input room cs source target rest → Reads S rest (Ok (Found c n))
       → T.codings.string c ≡ Some v → length target + length v ≤ room
       → Leads S T input room (cs ++ c ∷ []) (source ++ take n rest) (target ++ v) (drop n rest)
   leads_more input cs source target rest v room c n h r k fits = record {
@@ -60,22 +61,22 @@ module _ (S T : Meaning) (l : Laws S) where
     fits = rw (length-append target target') (omega (arith, k.fits));
   }
 
-  stops_next : (rest : List ℕ) (used room : ℕ) (k : End) → Stops S T rest used room k
-      → next T (reading S rest) used room ≡ halts k
-  stops_next rest used room (Ok Open) h = rw (reading_is l rest (Ok reading.Open) h)
-  stops_next rest used room (Ok Full) h =
-      rw (reading_is l rest (Ok (reading.Found h.0 h.1)) h.3, h.4, lt-ltb _ _ h.5)
-  stops_next rest used room (Err (Unwritten c)) h =
-      rw (reading_is l rest (Ok (reading.Found c h.0)) h.1, h.2)
-  stops_next rest used room (Err (Unread q)) h = rw (reading_is l rest (Err q) h)
-  stops_next rest used room (Err Unfinished) h = absurd h
+  stops_outcome : (rest : List ℕ) (used room : ℕ) (k : End) → Stops S T rest used room k
+      → outcome T (reading S rest) used room ≡ halts k
+  stops_outcome rest used room (Ok pause.Open) h = rw (reading_is l rest (Ok Open) h)
+  stops_outcome rest used room (Ok pause.Full) h =
+      rw (reading_is l rest (Ok (Found h.0 h.1)) h.3, h.4, lt-ltb _ _ h.5)
+  stops_outcome rest used room (Err (Unwritten c)) h =
+      rw (reading_is l rest (Ok (Found c h.0)) h.1, h.2)
+  stops_outcome rest used room (Err (Unread q)) h = rw (reading_is l rest (Err q) h)
+  stops_outcome rest used room (Err Unfinished) h = absurd h
 
-  goes_next : (a b : List ℕ) (c : ℕ) (v : List ℕ) (used room : ℕ) → Codes S a c
+  writes_outcome : (a b : List ℕ) (c : ℕ) (v : List ℕ) (used room : ℕ) → Codes S a c
       → T.codings.string c ≡ Some v → used + length v ≤ room
-      → next T (reading S (a ++ b)) used room ≡ writes v
-  goes_next a b c v used room h k fits =
+      → outcome T (reading S (a ++ b)) used room ≡ writes v
+  writes_outcome a b c v used room h k fits =
       rw (
-        reading_is l (a ++ b) (Ok (reading.Found c (length a)))
+        reading_is l (a ++ b) (Ok (Found c (length a)))
             (rw (length-append a b) (omega arith), rw (take-append_seam a b) h),
         k,
         le-ltb room (used + length v) fits,
@@ -99,11 +100,11 @@ module _ (S T : Meaning) (l : Laws S) where
         rw (parts.4, v.3, length-append, length-append, ← same) at
             h'.fits,
       ) in
-      let e : writes v.0 ≡ halts k = sym (goes_next p.0 (p.1 ++ rest') c v.0 (length target) room
-      (l.written c _ p.2) v.2 size)
-      ∙ ap (λ t. next T (reading S t) (length target) room)
+      let e : writes v.0 ≡ halts k = sym
+      (writes_outcome p.0 (p.1 ++ rest') c v.0 (length target) room (l.written c _ p.2) v.2 size)
+      ∙ ap (λ t. outcome T (reading S t) (length target) room)
       (sym (f ∙ ap (λ t. t ++ rest') p.3 ∙ append_assoc p.0 p.1 rest'))
-      ∙ stops_next rest (length target) room k s in
+      ∙ stops_outcome rest (length target) room k s in
       cc
 
   -- characters that fit lead to one end
@@ -130,6 +131,6 @@ module _ (S T : Meaning) (l : Laws S) where
         go.0,
         spells_one S ds source source' (rw (← go.0) p.leads.from) q.leads.from,
         t,
-        let e : halts j ≡ halts k = sym (stops_next p.rest (length target) room j p.stops)
-            ∙ rw (go.1, t) (stops_next q.rest (length target') room k q.stops) in cc,
+        let e : halts j ≡ halts k = sym (stops_outcome p.rest (length target) room j p.stops)
+            ∙ rw (go.1, t) (stops_outcome q.rest (length target') room k q.stops) in cc,
       )

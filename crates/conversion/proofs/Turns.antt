@@ -8,16 +8,16 @@ use lib.Seq.{take-append-add, drop-append-add}
 use mathlib.Core.Path.{subst₃}
 use borrow.Rule.Slice.PartMut.{put_mid, post_of, put_same}
 use Rattle.std.proofs.lemmas.List.{take_rest, drop_all, drop_more, set_at}
-use Rattle.charset.specs.declared.Reading.TheVariants as reading
+use Rattle.charset.specs.declared.Reading.TheVariants.{Found}
 use Rattle.charset.specs.Meaning.{Meaning, Laws}
 use Rattle.charset.specs.Answers.{Reads}
 use Rattle.conversion.specs.declared.Fault.TheVariants.{Unread, Unwritten, Unfinished}
-use Rattle.conversion.specs.declared.Pause.TheVariants.{Open, Full}
+use Rattle.conversion.specs.declared.Pause.TheVariants as pause
 use Rattle.conversion.specs.declared.Advance.TheVariants.{Written}
 use Rattle.conversion.specs.Stops.{End, Leads, Stops}
 use Rattle.conversion.specs.Advances.{Advances}
-use Rattle.conversion.specs.Runs.{Far, Runs}
-use Rattle.conversion.specs.Plain.{plain}
+use Rattle.conversion.specs.Runs.{Far, ByteForByte, Runs}
+use Rattle.conversion.specs.Plain.{plain_byte}
 use Rattle.conversion.proofs.Leading.{leads_none, leads_more, leads_on}
 use Rattle.conversion.proofs.PlainBytes.{plain_parts}
 
@@ -45,7 +45,7 @@ far_none S T l input out =
 
 module _ (S T : Meaning) (l : Laws S) (input out o : List ℕ) (count at put : ℕ)
     (far : Far S T input out o count at put) where
-  pub found_size : (c n : ℕ) → Reads S (drop at input) (Ok (reading.Found c n))
+  pub found_size : (c n : ℕ) → Reads S (drop at input) (Ok (Found c n))
       → (0 < n) × (at + n ≤ length input)
   found_size c n r =
       let inside = far.inside in (
@@ -54,7 +54,7 @@ module _ (S T : Meaning) (l : Laws S) (input out o : List ℕ) (count at put : �
       )
 
   -- one more character, written behind what was written
-  pub far_on : (o' v : List ℕ) (c n : ℕ) → Reads S (drop at input) (Ok (reading.Found c n))
+  pub far_on : (o' v : List ℕ) (c n : ℕ) → Reads S (drop at input) (Ok (Found c n))
       → T.codings.string c ≡ Some v → put + length v ≤ length out
       → o' ≡ (take put o ++ v) ++ drop (length v) (drop put o)
       → Far S T input out o' (count + 1) (at + n) (put + length v)
@@ -102,14 +102,14 @@ module _ (S T : Meaning) (l : Laws S) (input out o : List ℕ) (count at put : �
 
   -- one more byte that stands alone in both sets
   pub far_plain : (t : ℕ) → at < length input → put < length o
-      → plain S T (slice_index_or input at 0) ≡ Some t
+      → plain_byte S T (slice_index_or input at 0) ≡ Some t
       → Far S T input out (slice_set o put t) (count + 1) (at + 1) (put + 1)
   far_plain t left free h =
       let p = plain_parts S T (slice_index_or input at 0) t h in
       let into = far.room in let same = far.size in
       let front : take 1 (drop at input) ≡ slice_index_or input at 0 ∷ [] =
       ap (take 1) (drop_more input at 0 left) in
-      let reads : Reads S (drop at input) (Ok (reading.Found p.0 1)) =
+      let reads : Reads S (drop at input) (Ok (Found p.0 1)) =
       (rw (length-drop at input) (omega arith), ap S.codings.character front ∙ p.1) in
       let split : o ≡ take put o ++ (slice_index_or o put 0 ∷ drop (put + 1) o) =
       sym (take-append-drop put o) ∙ ap (λ z. take put o ++ z) (drop_more o put 0 free) in
@@ -123,7 +123,7 @@ module _ (S T : Meaning) (l : Laws S) (input out o : List ℕ) (count at put : �
 
   -- characters that were read and written behind them
   pub far_join : (o' last : List ℕ) (n : ℕ)
-      → Far S T (drop at input) (take (length o - put) (drop put o)) last n n n
+      → ByteForByte S T (drop at input) (take (length o - put) (drop put o)) last n
       → o' ≡ put_mid put (length o - put) o last
       → Far S T input out o' (count + n) (at + n) (put + n)
   far_join o' last n more o'-is =
@@ -162,8 +162,8 @@ module _ (S T : Meaning) (l : Laws S) (input out o : List ℕ) (count at put : �
   -- an end with room for so many bytes less is the same end with so many bytes used
   used : (k : End) → Stops S T (drop at input) 0 (length (take (length o - put) (drop put o))) k
       → Stops S T (drop at input) put (length out) k
-  used (Ok Open) h = h
-  used (Ok Full) h =
+  used (Ok pause.Open) h = h
+  used (Ok pause.Full) h =
       let into = far.room in let same = far.size in
       let less : length o - put < 0 + length h.2 = rw (take_rest o put, length-drop) at h.5 in
       (h.0, h.1, h.2, h.3, h.4, omega arith)

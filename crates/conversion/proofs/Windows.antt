@@ -1,15 +1,15 @@
--- Fronts of strings, and that the first four bytes of a string decide a step.
+-- Fronts of strings, and that the first four bytes of a string decide how it advances.
 use Rattle.std.proofs.Common.{◌≡◌, ℕ, ◌-◌, ◌≤◌, List, ◌++◌, length, take, drop, Ok, Err, Result}
 use Rattle.std.proofs.Common.{sym, ◌∙◌, arith, length-take, take_all}
 use Rattle.std.proofs.lemmas.List.{take_rest}
-use Rattle.charset.specs.declared.Reading.TheVariants as reading
+use Rattle.charset.specs.declared.Reading.TheVariants.{Found, Open}
 use Rattle.charset.specs.Meaning.{Meaning, Laws}
 use Rattle.charset.specs.Answers.{ReadAnswer, Reads}
 use Rattle.charset.proofs.FrontLemmas.{four_bytes_decide}
 use Rattle.charset.proofs.Places.{drop_behind}
 use Rattle.conversion.specs.declared.Fault.{Fault}
 use Rattle.conversion.specs.declared.Fault.TheVariants.{Unread, Unwritten, Unfinished}
-use Rattle.conversion.specs.declared.Pause.TheVariants.{Open, Full}
+use Rattle.conversion.specs.declared.Pause.TheVariants as pause
 use Rattle.conversion.specs.declared.Advance.{Advance}
 use Rattle.conversion.specs.declared.Advance.TheVariants.{Written, Paused}
 use Rattle.conversion.specs.Stops.{End, Stops}
@@ -30,16 +30,17 @@ module _ {S : Meaning} (T : Meaning) (l : Laws S) (s : List ℕ) where
 
   stops_four : (used room : ℕ) (k : End) → Stops S T (take 4 s) used room k
       → Stops S T s used room k
-  stops_four used room (Ok Open) h = reads_four (Ok reading.Open) h
-  stops_four used room (Ok Full) h =
-      (h.0, h.1, h.2, reads_four (Ok (reading.Found h.0 h.1)) h.3, h.4, h.5)
-  stops_four used room (Err (Unwritten c)) h = (h.0, reads_four (Ok (reading.Found c h.0)) h.1, h.2)
+  stops_four used room (Ok pause.Open) h = reads_four (Ok Open) h
+  stops_four used room (Ok pause.Full) h =
+      (h.0, h.1, h.2, reads_four (Ok (Found h.0 h.1)) h.3, h.4, h.5)
+  stops_four used room (Err (Unwritten c)) h = (h.0, reads_four (Ok (Found c h.0)) h.1, h.2)
   stops_four used room (Err (Unread q)) h = reads_four (Err q) h
   stops_four used room (Err Unfinished) h = h
 
-  pub steps_four : (out out' : List ℕ) (r : Result Advance Fault) → Advances S T (take 4 s) out out' r
+  pub advances_four : (out out' : List ℕ) (r : Result Advance Fault)
+      → Advances S T (take 4 s) out out' r
       → Advances S T s out out' r
-  steps_four out out' (Ok (Written n w)) h =
-      (h.0, h.1, reads_four (Ok (reading.Found h.0 n)) h.2, h.3, h.4, h.5, h.6)
-  steps_four out out' (Ok (Paused p)) h = (stops_four 0 (length out) (Ok p) h.0, h.1)
-  steps_four out out' (Err f) h = (stops_four 0 (length out) (Err f) h.0, h.1)
+  advances_four out out' (Ok (Written n w)) h =
+      (h.0, h.1, reads_four (Ok (Found h.0 n)) h.2, h.3, h.4, h.5, h.6)
+  advances_four out out' (Ok (Paused p)) h = (stops_four 0 (length out) (Ok p) h.0, h.1)
+  advances_four out out' (Err f) h = (stops_four 0 (length out) (Err f) h.0, h.1)

@@ -6,3 +6,5 @@ pub mod Becomes
 pub mod Plain
 pub mod Met
 pub mod Transcribed
+pub mod Pairs
+pub mod Converters

@@ -1,6 +1,6 @@
 -- Codings that were met, kept with the coding that each becomes.
 use Rattle.std.specs.Prelude.{◌≡◌, ℕ, ◌⊎◌, cond, List, Some, None, Ok, Option, bytes_eq}
-use Rattle.std.specs.Prelude.{slice_index_or}
+use Rattle.std.specs.Prelude.{slice_index_or, slice_set}
 use Rattle.charset.specs.Meaning.{Meaning}
 use Rattle.conversion.specs.Becomes.{becomes}
 use Rattle.conversion.specs.Next.{ComesNext}
@@ -14,6 +14,10 @@ if_this s (Some m) = cond (bytes_eq m.bytes s) (Some m.coding) None
 
 abbrev pub found_in : {N : ℕ} → List (Option (Met N)) → ℕ → List ℕ → Option (List ℕ)
 found_in kept place s = if_this s (slice_index_or kept place None)
+
+-- with a coding kept at a place, in place of what was kept there
+abbrev pub kept_with : {N : ℕ} → List (Option (Met N)) → ℕ → (s v : List ℕ) → List (Option (Met N))
+kept_with kept place s v = slice_set kept place (Some (record { bytes = s; coding = v }))
 
 -- that the coding s becomes v is kept somewhere
 abbrev pub KeptIn : {N : ℕ} → List (Option (Met N)) → (s v : List ℕ) → Type 0

@@ -27,3 +27,7 @@ pub record Far (S T : Meaning) (input out out' : List ℕ) (count at put : ℕ) 
   pub leads : Leads S T input (length out) chars (take at input) (take put out') (drop at input)
   pub rest : drop put out' ≡ drop put out
   pub size : length out' ≡ length out
+
+-- so many characters that fit were read from one byte each, and written as one byte each
+abbrev pub ByteForByte : Meaning → Meaning → List ℕ → (out out' : List ℕ) → ℕ → Type 0
+ByteForByte S T input out out' n = Far S T input out out' n n n

@@ -1,14 +1,14 @@
 -- Characters that lead from one set into another, and what ends them.
 use Rattle.std.specs.Prelude.{◌≡◌, ℕ, ◌+◌, ◌<◌, ◌≤◌, List, ◌++◌, length, Some, None, Ok, Err}
 use Rattle.std.specs.Prelude.{Result}
-use Rattle.charset.specs.declared.Reading.TheVariants as reading
+use Rattle.charset.specs.declared.Reading.TheVariants.{Found, Open}
 use Rattle.charset.specs.Meaning.{Meaning}
 use Rattle.charset.specs.Answers.{Reads}
 use Rattle.charset.specs.Decoding.{Spells}
 use Rattle.conversion.specs.declared.Fault.{Fault}
 use Rattle.conversion.specs.declared.Fault.TheVariants.{Unread, Unwritten, Unfinished}
 use Rattle.conversion.specs.declared.Pause.{Pause}
-use Rattle.conversion.specs.declared.Pause.TheVariants.{Open, Full}
+use Rattle.conversion.specs.declared.Pause.TheVariants as pause
 
 abbrev pub End : Type 0
 End = Result Pause Fault
@@ -26,12 +26,12 @@ pub record Leads (S T : Meaning) (input : List ℕ) (room : ℕ)
 -- the rest is an opening; or the target coding of its first character does not fit; or that
 -- character has none; or nothing can be read
 abbrev pub Stops : Meaning → Meaning → List ℕ → ℕ → ℕ → End → Type 0
-Stops S T rest used room (Ok Open) = Reads S rest (Ok reading.Open)
-Stops S T rest used room (Ok Full) =
-    (c n : ℕ) × (v : List ℕ) × Reads S rest (Ok (reading.Found c n)) × (T.codings.string c ≡ Some v)
+Stops S T rest used room (Ok pause.Open) = Reads S rest (Ok Open)
+Stops S T rest used room (Ok pause.Full) =
+    (c n : ℕ) × (v : List ℕ) × Reads S rest (Ok (Found c n)) × (T.codings.string c ≡ Some v)
     × (room < used + length v)
 Stops S T rest used room (Err (Unwritten c)) =
-    (n : ℕ) × Reads S rest (Ok (reading.Found c n)) × (T.codings.string c ≡ None)
+    (n : ℕ) × Reads S rest (Ok (Found c n)) × (T.codings.string c ≡ None)
 Stops S T rest used room (Err (Unread q)) = Reads S rest (Err q)
 Stops S T rest used room (Err Unfinished) = ⊥
 

@@ -13,7 +13,7 @@ mod two_sets;
 use charset::{CharacterSet, Coding, Reading, SetRefusal};
 pub use converter::Converter;
 
-// Why a transcript cannot go on.
+// Why a conversion cannot go on.
 #[derive(Clone, Copy, PartialEq, Eq, Debug)]
 pub enum Fault {
     // No coding stands in front, and what is left is no opening.
@@ -66,7 +66,8 @@ fn next_coding<S: CharacterSet, T: CharacterSet>(
     target: &T,
     input: &[u8],
 ) -> Result<Option<(Coding, usize)>, Fault>
-    ensures { ComesNext (set_of S.CharacterSet source.now) (set_of T.CharacterSet target.now) input.now result }
+    ensures { ComesNext (set_of S.CharacterSet source.now)
+        (set_of T.CharacterSet target.now) input.now result }
 {
     let Reading::Found { character, length } = source.read(input)? else {
         return Ok(None);

@@ -1,9 +1,9 @@
 // Codings of two and of three bytes, with the coding that each becomes, kept as they are met.
 ghost use Rattle.std.specs.Prelude.{◌≡◌, ℕ, ◌≤◌, ◌+◌, ◌*◌, ◌%◌, List, length, take, Some, None};
-ghost use Rattle.std.specs.Prelude.{replicate, slice_set};
+ghost use Rattle.std.specs.Prelude.{replicate};
 ghost use Rattle.charset.specs.Meaning.{Meaning};
 ghost use Rattle.conversion.specs.Becomes.{becomes};
-ghost use Rattle.conversion.specs.Met.{found_in, Right, FoundNext};
+ghost use Rattle.conversion.specs.Met.{found_in, kept_with, Right, FoundNext};
 
 use charset::Coding;
 
@@ -35,7 +35,7 @@ impl<const N: usize> Places<N> {
     }
 
     fn keep(&mut self, place: u8, bytes: [u8; N], coding: Coding)
-        ensures { self.new.kept ≡ slice_set self.old.kept place (Some (record { bytes = bytes.entry; coding = coding })) }
+        ensures { self.new.kept ≡ kept_with self.old.kept place bytes.entry coding }
     {
         self.kept[usize::from(place)] = Some(Met { bytes, coding });
     }
@@ -85,7 +85,8 @@ impl MetCodings {
 
     // Keeps what so many bytes in front of the input become.
     pub(crate) fn keep(&mut self, input: &[u8], length: usize, coding: Coding)
-        ensures { (S T : Meaning) → Right S T self.old → becomes S T (take length input.now) ≡ Some coding → Right S T self.new }
+        ensures { (S T : Meaning) → Right S T self.old
+            → becomes S T (take length input.now) ≡ Some coding → Right S T self.new }
     {
         match (length, input) {
             (2, [first, second, ..]) => self

@@ -2,13 +2,12 @@
 ghost use Rattle.std.specs.Prelude.{◌≡◌, ◌≤◌, ◌++◌, length, drop, Some};
 ghost use Rattle.charset.specs.Sets.{set_of};
 ghost use Rattle.conversion.specs.Next.{ComesNext};
-ghost use Rattle.conversion.specs.Met.{Right};
-ghost use Rattle.conversion.specs.Plain.{only_byte, plain, AllKnown, Known};
-ghost use Rattle.conversion.specs.Runs.{Far, Runs};
+ghost use Rattle.conversion.specs.Plain.{only_byte, plain_byte, AllKnown, Known};
+ghost use Rattle.conversion.specs.Runs.{ByteForByte, Runs};
 ghost use Rattle.conversion.specs.Advances.{Advances};
 
 use crate::met::MetCodings;
-use crate::{Fault, Pause, Run, Advance, next_coding};
+use crate::{Advance, Fault, Pause, Run, next_coding};
 use charset::{CharacterSet, Coding, Front};
 
 // The byte of a coding of one byte.
@@ -23,7 +22,8 @@ fn only_byte(coding: Coding) -> Option<u8>
 
 // What a byte becomes that stands alone in both sets.
 fn plain_byte<S: CharacterSet, T: CharacterSet>(source: &S, target: &T, byte: u8) -> Option<u8>
-    ensures { result ≡ plain (set_of S.CharacterSet source.now) (set_of T.CharacterSet target.now) byte }
+    ensures { result ≡ plain_byte (set_of S.CharacterSet source.now)
+        (set_of T.CharacterSet target.now) byte }
 {
     match next_coding(source, target, &[byte]) {
         Ok(found) => {
@@ -36,7 +36,8 @@ fn plain_byte<S: CharacterSet, T: CharacterSet>(source: &S, target: &T, byte: u8
 
 // What every byte becomes. A loop, since a table is filled in place by number.
 fn plain_bytes<S: CharacterSet, T: CharacterSet>(source: &S, target: &T) -> [Option<u8>; 256]
-    ensures { AllKnown (set_of S.CharacterSet source.now) (set_of T.CharacterSet target.now) 256 result }
+    ensures { AllKnown (set_of S.CharacterSet source.now)
+        (set_of T.CharacterSet target.now) 256 result }
 {
     let mut known = [None; 256];
     for byte in 0..256usize {
@@ -55,10 +56,13 @@ pub struct TwoSets<S: CharacterSet, T: CharacterSet> {
     // What a byte becomes that stands alone in both sets; none where that is not known.
     known: [Option<u8>; 256],
     is_prepared: bool,
-    ghost right: { Known (set_of S.CharacterSet source) (set_of T.CharacterSet target) known },
+    ghost known_right: { Known (set_of S.CharacterSet source)
+        (set_of T.CharacterSet target) known },
 }
 
 impl<S: CharacterSet, T: CharacterSet> TwoSets<S, T> {
+    ghost use Rattle.conversion.specs.Pairs.{source, target, IsRightFor, SameSets};
+
     pub(crate) fn new(source: S, target: T) -> TwoSets<S, T>
         ensures same_sets { (result.source ≡ source) × (result.target ≡ target) }
     {
@@ -73,7 +77,7 @@ impl<S: CharacterSet, T: CharacterSet> TwoSets<S, T> {
     // Looks up what each byte becomes, unless that is done, where so many bytes are to come that it
     // is worth it.
     pub(crate) fn prepare(&mut self, bytes: usize)
-        ensures same_sets { (self.new.source ≡ self.old.source) × (self.new.target ≡ self.old.target) }
+        ensures same_sets { SameSets self.old self.new }
     {
         if bytes >= MANY_BYTES && !self.is_prepared {
             self.known = plain_bytes(&self.source, &self.target);
@@ -84,7 +88,8 @@ impl<S: CharacterSet, T: CharacterSet> TwoSets<S, T> {
     // What the bytes in front of the input become, in front of the output, as far as that is known;
     // how many these are.
     fn copy_plain(&self, input: &[u8], output: &mut [u8]) -> usize
-        ensures { Far (set_of S.CharacterSet self.now.source) (set_of T.CharacterSet self.now.target) input.now output.old output.new result result result }
+        ensures { ByteForByte (source self.now) (target self.now)
+            input.now output.old output.new result }
     {
         let mut count = 0;
         while count < input.len() && count < output.len() {
@@ -98,10 +103,11 @@ impl<S: CharacterSet, T: CharacterSet> TwoSets<S, T> {
     }
 
     // The same of the bytes that stand `at` bytes behind the start of the held bytes and then the
-    // sector. None of those that are held: a transcript holds few.
+    // sector. None of those that are held: they are few.
     fn plain_at(&self, held: Front, sector: &[u8], at: usize, output: &mut [u8]) -> usize
         requires { at ≤ length (held ++ sector.now) }
-        ensures { Far (set_of S.CharacterSet self.now.source) (set_of T.CharacterSet self.now.target) (drop at (held ++ sector.now)) output.old output.new result result result }
+        ensures { ByteForByte (source self.now) (target self.now)
+            (drop at (held ++ sector.now)) output.old output.new result }
     {
         let behind = held.len();
         if at < behind {
@@ -112,9 +118,9 @@ impl<S: CharacterSet, T: CharacterSet> TwoSets<S, T> {
 
     // What comes next in the input: from the codings that were met, where it is one of them.
     fn next(&self, met: &mut MetCodings, input: &[u8]) -> Result<Option<(Coding, usize)>, Fault>
-        requires { Right (set_of S.CharacterSet self.now.source) (set_of T.CharacterSet self.now.target) met.old }
-        ensures right { Right (set_of S.CharacterSet self.now.source) (set_of T.CharacterSet self.now.target) met.new }
-        ensures next { ComesNext (set_of S.CharacterSet self.now.source) (set_of T.CharacterSet self.now.target) input.now result }
+        requires { IsRightFor self.now met.old }
+        ensures right { IsRightFor self.now met.new }
+        ensures next { ComesNext (source self.now) (target self.now) input.now result }
     {
         if let Some(found) = met.find(input) {
             return Ok(Some(found));
@@ -134,9 +140,10 @@ impl<S: CharacterSet, T: CharacterSet> TwoSets<S, T> {
         input: &[u8],
         output: &mut [u8],
     ) -> Result<Advance, Fault>
-        requires { Right (set_of S.CharacterSet self.now.source) (set_of T.CharacterSet self.now.target) met.old }
-        ensures right { Right (set_of S.CharacterSet self.now.source) (set_of T.CharacterSet self.now.target) met.new }
-        ensures steps { Advances (set_of S.CharacterSet self.now.source) (set_of T.CharacterSet self.now.target) input.now output.old output.new result }
+        requires { IsRightFor self.now met.old }
+        ensures right { IsRightFor self.now met.new }
+        ensures advances { Advances (source self.now) (target self.now)
+            input.now output.old output.new result }
     {
         let Some((coding, length)) = self.next(met, input)? else {
             return Ok(Advance::Paused(Pause::Open));
@@ -163,10 +170,11 @@ impl<S: CharacterSet, T: CharacterSet> TwoSets<S, T> {
         at: usize,
         output: &mut [u8],
     ) -> Result<Advance, Fault>
-        requires right { Right (set_of S.CharacterSet self.now.source) (set_of T.CharacterSet self.now.target) met.old }
+        requires right { IsRightFor self.now met.old }
         requires inside { at ≤ length (held ++ sector.now) }
-        ensures right { Right (set_of S.CharacterSet self.now.source) (set_of T.CharacterSet self.now.target) met.new }
-        ensures steps { Advances (set_of S.CharacterSet self.now.source) (set_of T.CharacterSet self.now.target) (drop at (held ++ sector.now)) output.old output.new result }
+        ensures right { IsRightFor self.now met.new }
+        ensures advances { Advances (source self.now) (target self.now)
+            (drop at (held ++ sector.now)) output.old output.new result }
     {
         let bytes = held.as_bytes();
         if at < bytes.len() {
@@ -187,20 +195,21 @@ impl<S: CharacterSet, T: CharacterSet> TwoSets<S, T> {
         sector: &[u8],
         output: &mut [u8],
     ) -> Run
-        requires { Right (set_of S.CharacterSet self.now.source) (set_of T.CharacterSet self.now.target) met.old }
-        ensures right { Right (set_of S.CharacterSet self.now.source) (set_of T.CharacterSet self.now.target) met.new }
-        ensures runs { Runs (set_of S.CharacterSet self.now.source) (set_of T.CharacterSet self.now.target) (held ++ sector.now) output.old output.new result }
+        requires { IsRightFor self.now met.old }
+        ensures right { IsRightFor self.now met.new }
+        ensures runs { Runs (source self.now) (target self.now)
+            (held ++ sector.now) output.old output.new result }
     {
         prove!(held.len() <= 4);
         let mut characters = 0;
         let mut read = 0;
         let mut written = 0;
         let end = 'run: loop {
-            let plain = self.plain_at(held, sector, read, &mut output[written..]);
-            if plain > 0 {
-                characters += plain;
-                read += plain;
-                written += plain;
+            let copied = self.plain_at(held, sector, read, &mut output[written..]);
+            if copied > 0 {
+                characters += copied;
+                read += copied;
+                written += copied;
                 continue;
             }
             match self.one_at(met, held, sector, read, &mut output[written..]) {

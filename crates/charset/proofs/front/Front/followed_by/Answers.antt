@@ -1,6 +1,6 @@
 use Rattle.std.proofs.Common.{◌≡◌, ℕ, ◌≤◌, List, length, take, ap, refl, sym, ◌∙◌, arith}
 use Rattle.std.proofs.Common.{length-take-le}
-use Rattle.charset.specs.Padding.{size_back}
+use Rattle.charset.specs.Laws.Padding.{size_back}
 use Rattle.charset.proofs.Places.{padded_more, view_more, four_of}
 use Rattle.charset.proofs.front.Front.followed_by.Goals as goal
 

@@ -17,6 +17,7 @@ loop-count-preserved g c =
     c.args.output.now c.loop-count.output
     c.loop-count.count c.loop-count.count c.loop-count.count c.loop-count.invariant c.in-Some.byte
     c.loop-count-test.true c.if-count-output.true
-    (c.args.self.now.right.1 (slice_index_or c.args.input.now c.loop-count.count 0) c.in-Some.byte
+    (c.args.self.now.known_right.1 (slice_index_or c.args.input.now c.loop-count.count 0)
+    c.in-Some.byte
     (omega (arith, c.type_inv.input c.loop-count.count))
     (ap (λ i. slice_index_or c.args.self.now.known i None) (sym c.from.ensures) ∙ c.in-Some.is))

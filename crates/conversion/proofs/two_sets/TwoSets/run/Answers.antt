@@ -8,7 +8,7 @@ use Rattle.conversion.specs.declared.Advance.{Advance}
 use Rattle.conversion.specs.declared.Advance.TheVariants.{Written, Paused}
 use Rattle.conversion.specs.declared.Pause.{Pause}
 use Rattle.conversion.specs.Advances.{Advances}
-use Rattle.conversion.specs.Runs.{Far, Runs}
+use Rattle.conversion.specs.Runs.{Far, ByteForByte, Runs}
 use Rattle.conversion.proofs.Turns.{far_join, far_more, far_ends}
 use Rattle.conversion.proofs.two_sets.TwoSets.run.Goals as goal
 
@@ -21,18 +21,19 @@ after put o last = put_mid put (length o - put) o last
 
 module _ {S T : Meaning} (l : Laws S) (held sector out o : List ℕ) {count at put : ℕ}
     (far : Far S T (held ++ sector) out o count at put) where
-  plain : (last : List ℕ) (n : ℕ) → Far S T (drop at (held ++ sector)) (part put o) last n n n
+  copied : (last : List ℕ) (n : ℕ)
+      → ByteForByte S T (drop at (held ++ sector)) (part put o) last n
       → Far S T (held ++ sector) out (after put o last) (count + n) (at + n) (put + n)
-  plain last n more =
+  copied last n more =
       far_join S T l (held ++ sector) out o count at put far (after put o last) last n more refl
 
   -- where there are none
   still : (last : List ℕ) (n : ℕ) → n ≤ 0
-      → Far S T (drop at (held ++ sector)) (part put o) last n n n
+      → ByteForByte S T (drop at (held ++ sector)) (part put o) last n
       → Far S T (held ++ sector) out (after put o last) count at put
   still last n none more =
       subst₃ (λ x y z. Far S T (held ++ sector) out (after put o last) x y z) (omega (arith, none))
-      (omega (arith, none)) (omega (arith, none)) (plain last n more)
+      (omega (arith, none)) (omega (arith, none)) (copied last n more)
 
 module _ {S T : Meaning} (l : Laws S) (held sector out o last : List ℕ) {count at put : ℕ}
     (far : Far S T (held ++ sector) out o count at put) where
@@ -56,12 +57,12 @@ module _ {S T : Meaning} (l : Laws S) (held sector out o last : List ℕ) {count
       (record { characters = count; read = at; written = put; end = Err f })
   fails f w = far_ends S T l (held ++ sector) out o count at put far (Err f) _ last w.0 w.1 refl
 
-pub run-preserved-then-plain-gt0 : goal.run-preserved-then-plain-gt0
-run-preserved-then-plain-gt0 g c = (
+pub run-preserved-then-copied-gt0 : goal.run-preserved-then-copied-gt0
+run-preserved-then-copied-gt0 g c = (
   c.run.invariant.0,
-  plain (g.met.S.CharacterSet.lawful c.args.self.now.source) c.args.held c.args.sector.now
-      c.args.output.now c.run.output c.run.invariant.1 c.plain_at-plain.new.output
-      c.plain_at-plain.result c.plain_at-plain.ensures,
+  copied (g.met.S.CharacterSet.lawful c.args.self.now.source) c.args.held c.args.sector.now
+      c.args.output.now c.run.output c.run.invariant.1 c.plain_at-copied.new.output
+      c.plain_at-copied.result c.plain_at-copied.ensures,
 )
 
 pub run-preserved : goal.run-preserved
@@ -70,9 +71,9 @@ run-preserved g c =
       c.in-Ok-Written.ensures.right,
       more l c.args.held c.args.sector.now c.args.output.now _ c.one_at.new.output
           (still l c.args.held c.args.sector.now c.args.output.now c.run.output c.run.invariant.1
-          c.plain_at-plain.new.output c.plain_at-plain.result c.if-plain-gt0.false
-          c.plain_at-plain.ensures)
-          _ _ c.in-Ok-Written.field-0-is c.in-Ok-Written.ensures.steps,
+          c.plain_at-copied.new.output c.plain_at-copied.result c.if-copied-gt0.false
+          c.plain_at-copied.ensures)
+          _ _ c.in-Ok-Written.field-0-is c.in-Ok-Written.ensures.advances,
     )
 
 pub returns-in-Ok-Paused-clause-runs : goal.returns-in-Ok-Paused-clause-runs
@@ -80,15 +81,15 @@ returns-in-Ok-Paused-clause-runs g c =
     let l = g.met.S.CharacterSet.lawful c.args.self.now.source in
     ends l c.args.held c.args.sector.now c.args.output.now _ c.one_at.new.output
     (still l c.args.held c.args.sector.now c.args.output.now c.run.output c.run.invariant.1
-    c.plain_at-plain.new.output c.plain_at-plain.result c.if-plain-gt0.false
-    c.plain_at-plain.ensures)
-    _ c.in-Ok-Paused.field-0-is c.in-Ok-Paused.ensures.steps
+    c.plain_at-copied.new.output c.plain_at-copied.result c.if-copied-gt0.false
+    c.plain_at-copied.ensures)
+    _ c.in-Ok-Paused.field-0-is c.in-Ok-Paused.ensures.advances
 
 pub returns-in-Err-clause-runs : goal.returns-in-Err-clause-runs
 returns-in-Err-clause-runs g c =
     let l = g.met.S.CharacterSet.lawful c.args.self.now.source in
     fails l c.args.held c.args.sector.now c.args.output.now _ c.one_at.new.output
     (still l c.args.held c.args.sector.now c.args.output.now c.run.output c.run.invariant.1
-    c.plain_at-plain.new.output c.plain_at-plain.result c.if-plain-gt0.false
-    c.plain_at-plain.ensures)
-    c.in-Err.fault c.in-Err.ensures.steps
+    c.plain_at-copied.new.output c.plain_at-copied.result c.if-copied-gt0.false
+    c.plain_at-copied.ensures)
+    c.in-Err.fault c.in-Err.ensures.advances
