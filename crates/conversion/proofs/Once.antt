@@ -8,7 +8,7 @@ use Rattle.conversion.specs.declared.Fault.TheVariants.{Unread, Unwritten, Unfin
 use Rattle.conversion.specs.declared.Pause.TheVariants.{Open}
 use Rattle.conversion.specs.Stops.{End, Stops, Reaches}
 use Rattle.conversion.proofs.Leading.{one_end}
-use Rattle.conversion.specs.Transcribed.{Ends, Transcribed, TheTranscript}
+use Rattle.conversion.specs.Transcribed.{Ends, Transcribed, TheTranscription}
 
 -- the end at which a conversion stands where a text ends
 abbrev as_end : Option Fault → End
@@ -71,7 +71,7 @@ module _ (S T : Meaning) (l : Laws S) where
             ∙ rw (offset, e.3) (stop_back (drop j bytes) b q.ends),
       )
 
-  pub the_transcript : {bytes text : List ℕ} {count offset : ℕ} {stop : Option Fault}
+  pub the_transcription : {bytes text : List ℕ} {count offset : ℕ} {stop : Option Fault}
       → Transcribed S T bytes text count offset stop
-      → TheTranscript S T bytes text count offset stop
-  the_transcript h = record { transcribed = h; only = λ t n o s k. one_transcript k h }
+      → TheTranscription S T bytes text count offset stop
+  the_transcription h = record { transcribed = h; only = λ t n o s k. one_transcript k h }

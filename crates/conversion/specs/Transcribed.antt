@@ -28,7 +28,7 @@ pub record Transcribed (S T : Meaning) (bytes text : List ℕ) (count offset : �
   pub ends : Ends S T (drop offset bytes) stop
 
 -- the bytes are transcribed so, and in no other way
-pub record TheTranscript (S T : Meaning) (bytes text : List ℕ) (count offset : ℕ)
+pub record TheTranscription (S T : Meaning) (bytes text : List ℕ) (count offset : ℕ)
     (stop : Option Fault) : Type 0 where
   pub transcribed : Transcribed S T bytes text count offset stop
   pub only : (t : List ℕ) (n o : ℕ) (s : Option Fault) → Transcribed S T bytes t n o s

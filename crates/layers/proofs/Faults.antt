@@ -4,7 +4,7 @@ use Rattle.std.proofs.Common.{take, sym, refl, ap, ◌∙◌, subst, append_asso
 use lib.Seq.{take-append-add}
 use Rattle.std.proofs.lemmas.Bool.{both_ways}
 use Rattle.charset.specs.Meaning.{Meaning, Codes, IsOpening, Unreadable}
-use Rattle.charset.proofs.FrontLemmas.{take_min}
+use Rattle.charset.proofs.FrontLemmas.{take-take_min}
 use Rattle.layers.specs.Words.{FailsAt}
 
 -- it has an opening in front, and a byte with which neither an opening nor a coding comes about
@@ -35,7 +35,7 @@ first_fault m none s u = go s [] none u
               o,
               (
                 (λ n c h. u.0 (min n (length p + 1)) c
-                    (subst (λ z. Codes m z c) (ap (take n) i ∙ take_min n (length p + 1)
+                    (subst (λ z. Codes m z c) (ap (take n) i ∙ take-take_min n (length p + 1)
                     (p ++ x ∷ s))
                     h)),
                 e,

@@ -8,7 +8,7 @@ use Rattle.conversion.specs.declared.Fault.{Fault}
 use Rattle.conversion.specs.declared.Fault.TheVariants.{Unwritten}
 use Rattle.transcript.specs.declared.transcription.Transcription.{Transcription}
 use Rattle.transcript.specs.Carried.{Outcome, fault_in, offset_in, CarriedOut}
-use Rattle.conversion.specs.Transcribed.{TheTranscript}
+use Rattle.conversion.specs.Transcribed.{TheTranscription}
 use Rattle.roll.specs.declared.refusal.RollRefusal.TheVariants.{WrongSize}
 use Rattle.report.specs.declared.fault.RollFault.{RollFault}
 use Rattle.report.specs.declared.fault.RollFault.TheVariants.{Refused, Faulted}
@@ -21,7 +21,7 @@ use Rattle.forms.specs.FormSets.{form_set}
 -- the bytes in that set, in UTF-8: the characters up to the end or a fault, by a use of a
 -- transcript
 pub record TextIn (m : Meaning) (bytes text : List ℕ) (characters : ℕ) (o : Outcome) : Type 0 where
-  pub transcript : TheTranscript m utf8 bytes text characters (offset_in bytes o) (fault_in o)
+  pub transcript : TheTranscription m utf8 bytes text characters (offset_in bytes o) (fault_in o)
   pub carried_out : CarriedOut m utf8 bytes text characters o
 
 abbrev pub TextOf : Meaning → List ℕ → Transcription → Type 0

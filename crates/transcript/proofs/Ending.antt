@@ -11,16 +11,16 @@ use Rattle.transcript.specs.Calls.{Snapshot, CloseAnswer, unfinished, status_of,
 use Rattle.transcript.specs.Uses.{close, status, Step, call, taken_in, written_in}
 use Rattle.transcript.specs.Law.{StandsOn}
 use Rattle.transcript.proofs.Keeping.{stands}
-use Rattle.conversion.specs.Transcribed.{Ends, Transcribed, TheTranscript}
+use Rattle.conversion.specs.Transcribed.{Ends, Transcribed, TheTranscription}
 use Rattle.transcript.specs.Carried.{Outcome, fault_in, offset_in, refused_by, CarriedOut}
-use Rattle.conversion.proofs.Once.{the_transcript}
+use Rattle.conversion.proofs.Once.{the_transcription}
 use Rattle.transcript.proofs.Along.{Along, up_to}
 use Rattle.transcript.proofs.Sectors.{Stopped}
 
 -- what is promised of a text and its outcome
 abbrev pub Promised : Meaning → Meaning → (bytes text : List ℕ) → ℕ → Outcome → Type 0
 Promised S T bytes text count o =
-    TheTranscript S T bytes text count (offset_in bytes o) (fault_in o)
+    TheTranscription S T bytes text count (offset_in bytes o) (fault_in o)
     × CarriedOut S T bytes text count o
 
 -- what a closing comes to
@@ -34,7 +34,7 @@ module _ (S T : Meaning) (l : Laws S) (bytes text : List ℕ) where
   pub after_fault : (f : FaultAt) (t : Snapshot) → Stopped S T bytes text f t
       → Promised S T bytes text t.characters (Err f)
   after_fault f t h = (
-    the_transcript S T l h.transcribed,
+    the_transcription S T l h.transcribed,
     record {
       offers = h.offers;
       events = status (status_of t) ∷ h.offers;
@@ -102,7 +102,7 @@ module _ (S T : Meaning) (l : Laws S) (bytes text : List ℕ) where
       after_closing t r o st e =
           let step : Step S T s (close (refused_by o)) t =
           subst (λ z. Step S T s (close z) t) e st in (
-            the_transcript S T l (by_outcome o (closes t (refused_by o) step)),
+            the_transcription S T l (by_outcome o (closes t (refused_by o) step)),
             record {
               offers = along.offers;
               events = status (status_of t) ∷ (close (refused_by o) ∷ along.offers);

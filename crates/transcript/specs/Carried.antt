@@ -10,7 +10,7 @@ use Rattle.transcript.specs.declared.answers.Refusal.TheVariants as refusal
 use Rattle.transcript.specs.declared.answers.State.TheVariants as state
 use Rattle.transcript.specs.declared.answers.Status.{Status}
 use Rattle.transcript.specs.declared.transcription.Transcription.{Transcription}
-use Rattle.conversion.specs.Transcribed.{TheTranscript}
+use Rattle.conversion.specs.Transcribed.{TheTranscription}
 use Rattle.transcript.specs.Calls.{Snapshot, OfferAnswer}
 use Rattle.transcript.specs.Uses.{Event, start, offer, close, status, Use, taken_in, written_in}
 use Rattle.transcript.specs.Law.{Feeds}
@@ -77,7 +77,7 @@ pub record CarriedOut (S T : Meaning) (bytes text : List ℕ) (characters : ℕ)
 -- up to the end or a fault, and no other, by a use of a transcript
 pub record IsTranscription (S T : Meaning) (bytes text : List ℕ) (characters : ℕ) (o : Outcome)
     : Type 0 where
-  pub the_transcript : TheTranscript S T bytes text characters (offset_in bytes o) (fault_in o)
+  pub the_transcription : TheTranscription S T bytes text characters (offset_in bytes o) (fault_in o)
   pub carried_out : CarriedOut S T bytes text characters o
 
 abbrev pub Transcribes : Meaning → Meaning → List ℕ → Transcription → Type 0

@@ -145,7 +145,7 @@ returns-in-Err g c =
     record {
       transcribed =
           rw (c.of.ensures.text, c.of.ensures.characters, c.of.ensures.outcome)
-          (record { the_transcript = all.0; carried_out = all.1 });
+          (record { the_transcription = all.0; carried_out = all.1 });
       too_long = c.if-bytes-gt-LONGEST_SOURCE.false;
       the_law = the_law;
     }
@@ -173,7 +173,7 @@ returns g c =
     record {
       transcribed =
           rw (c.of-2.ensures.text, c.of-2.ensures.characters, c.of-2.ensures.outcome)
-          (record { the_transcript = all.0; carried_out = all.1 });
+          (record { the_transcription = all.0; carried_out = all.1 });
       too_long = c.if-bytes-gt-LONGEST_SOURCE.false;
       the_law = the_law;
     }
