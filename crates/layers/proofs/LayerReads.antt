@@ -13,8 +13,8 @@ use Rattle.layers.specs.Recoding.{Recoding, clean, below, ends, is_broken, recod
 use Rattle.layers.specs.CharacterList.{on_list}
 use Rattle.layers.specs.Layers.{sub, added, controls}
 use Rattle.charset.proofs.FrontLemmas.{reading_is}
-use Rattle.layers.specs.Recode.{codes_parts, codes_from, opens_parts, opens_from, below_take}
-use Rattle.layers.specs.LayersKeep.{kept_parts, control_parts, from_below, new}
+use Rattle.layers.specs.Laws.Recode.{codes_parts, codes_from, opens_parts, opens_from, below_take}
+use Rattle.layers.specs.Laws.LayersKeep.{kept_parts, control_parts, from_below, new}
 
 abbrev pub sub_read : List ℕ → ReadAnswer → ReadAnswer
 sub_read ds (Ok (Found c n)) = cond (on_list ds c) (Ok (Found c n)) (Err (own 37))

@@ -9,7 +9,7 @@ use Rattle.charset.proofs.FrontLemmas.{reading_is, reading_bad, reading_reads}
 use Rattle.layers.specs.CharacterList.{on_list}
 use Rattle.layers.specs.Layers.{added, sub}
 use Rattle.layers.specs.Words.{SubMeaning, Added, ControlsMeaning}
-use Rattle.layers.specs.LayersKeep.{kept_parts, control_parts, added_parts, from_below, new}
+use Rattle.layers.specs.Laws.LayersKeep.{kept_parts, control_parts, added_parts, from_below, new}
 
 pub sub_meaning : (ds : List ℕ) (m : Meaning) → Laws m → SubMeaning ds m
 sub_meaning ds m l = record {

@@ -16,7 +16,7 @@ use Rattle.layers.specs.Depth.{own, up}
 use Rattle.layers.specs.Recoding.{Recoding, Agrees, before, shifted, below, ends, is_broken}
 use Rattle.layers.specs.Recoding.{recoded}
 use Rattle.layers.specs.Scans.{Scans, form_size, size_of}
-use Rattle.layers.specs.Recode.{below_front, reads_shifted}
+use Rattle.layers.specs.Laws.Recode.{below_front, reads_shifted}
 use Rattle.layers.proofs.LayerReads.{reads_found, reads_open, reads_refused, reads_own}
 
 pub shifted_size : (r : Recoding) (t u : List ℕ) → shifted r t ≡ Some u → length u ≡ size_of r t

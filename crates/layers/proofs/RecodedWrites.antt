@@ -4,7 +4,7 @@ use Rattle.std.proofs.Common.{Some, None, Option, option_and_then, sym, refl, ap
 use Rattle.std.proofs.Common.{append_assoc, append-nil, add-one, arith, length-append}
 use Rattle.std.proofs.Common.{drop_of_length-le, drop-cons}
 use Rattle.std.proofs.lemmas.Bool.{cases_lt, lt-ltb, le-ltb, le-leb, lt-leb}
-use Rattle.charset.specs.Strings.{joined}
+use Rattle.charset.specs.Strings.{with_byte}
 use Rattle.layers.specs.declared.recoding.moves.WrittenByte.{WrittenByte}
 use Rattle.layers.specs.declared.recoding.moves.WrittenByte.TheVariants.{One, Two}
 use Rattle.layers.specs.Recoding.{Recoding, before, shifted, at_most_four}
@@ -15,14 +15,14 @@ abbrev pub ahead : List ℕ → Option (List ℕ) → Option (List ℕ)
 ahead u None = None
 ahead u (Some v) = Some (u ++ v)
 
-joined_parts : (u : List ℕ) (x : ℕ) (w : List ℕ) → joined u x ≡ Some w
+joined_parts : (u : List ℕ) (x : ℕ) (w : List ℕ) → with_byte u x ≡ Some w
     → (length u < 4) × (w ≡ u ++ x ∷ [])
 joined_parts u x w e = elim (cases_lt (length u) 4) [
   | inl h ↦ (h, let f : Some (u ++ x ∷ []) ≡ Some w = rw (lt-ltb (length u) 4 h) at e in cc)
   | inr h ↦ let f : None ≡ Some w = rw (le-ltb (length u) 4 h) at e in cc
 ]
 
-joined_none : (u : List ℕ) (x : ℕ) → joined u x ≡ None → 4 ≤ length u
+joined_none : (u : List ℕ) (x : ℕ) → with_byte u x ≡ None → 4 ≤ length u
 joined_none u x e = elim (cases_lt (length u) 4) [
   | inl h ↦ let f : Some (u ++ x ∷ []) ≡ None = rw (lt-ltb (length u) 4 h) at e in cc
   | inr h ↦ h
@@ -40,7 +40,7 @@ extends u (One x) w e =
     go : w ≡ u ++ x ∷ [] → (o : Option (List ℕ)) → ahead u (before (Some (One x)) o) ≡ ahead w o
     go h None = refl
     go h (Some v) = ap Some (sym (ap (λ z. z ++ v) h ∙ append_assoc u (x ∷ []) v))
-extends u (Two x y) w e = go (joined u x) refl e
+extends u (Two x y) w e = go (with_byte u x) refl e
   where
     last : (v : List ℕ) → v ≡ u ++ x ∷ [] → w ≡ v ++ y ∷ [] → (o : Option (List ℕ))
         → ahead u (before (Some (Two x y)) o) ≡ ahead w o
@@ -49,7 +49,7 @@ extends u (Two x y) w e = go (joined u x) refl e
         ap Some (sym (ap (λ q. q ++ z) (k ∙ ap (λ q. q ++ y ∷ []) h)
         ∙ append_assoc (u ++ x ∷ []) (y ∷ []) z ∙ append_assoc u (x ∷ []) (y ∷ z)))
 
-    go : (j : Option (List ℕ)) → joined u x ≡ j → option_and_then (λ v. joined v y) j ≡ Some w
+    go : (j : Option (List ℕ)) → with_byte u x ≡ j → option_and_then (λ v. with_byte v y) j ≡ Some w
         → (length w ≤ 4) × ((o : Option (List ℕ)) → ahead u (before (Some (Two x y)) o) ≡ ahead w o)
     go None h k = cc
     go (Some v) h k =
@@ -65,9 +65,9 @@ pub fails : (u : List ℕ) (f : WrittenByte) → extended u f ≡ None → (o : 
     → at_most_four (ahead u (before (Some f) o)) ≡ None
 fails u f e None = refl
 fails u (One x) e (Some v) = too_long u x v (joined_none u x e)
-fails u (Two x y) e (Some v) = go (joined u x) refl e
+fails u (Two x y) e (Some v) = go (with_byte u x) refl e
   where
-    go : (j : Option (List ℕ)) → joined u x ≡ j → option_and_then (λ v. joined v y) j ≡ None
+    go : (j : Option (List ℕ)) → with_byte u x ≡ j → option_and_then (λ v. with_byte v y) j ≡ None
         → at_most_four (Some (u ++ x ∷ y ∷ v)) ≡ None
     go None h k = too_long u x (y ∷ v) (joined_none u x h)
     go (Some w) h k =

@@ -24,9 +24,9 @@ use Rattle.layers.specs.Words.{in_parity, InParity, Shifts, BeginsShifted, Canno
 use Rattle.layers.specs.Words.{ParityMeaning, ShiftMeaning}
 use Rattle.charset.proofs.FrontLemmas.{reading_is, opening_passed, reads_on}
 use Rattle.charset.proofs.Places.{four}
-use Rattle.layers.specs.Recode.{codes_parts, codes_from, opens_parts, opens_from, shifted_reads}
-use Rattle.layers.specs.Recode.{reads_shifted}
-use Rattle.layers.specs.LayersKeep.{parity_agrees, shift_agrees, parity_laws, shift_laws}
+use Rattle.layers.specs.Laws.Recode.{codes_parts, codes_from, opens_parts, opens_from, shifted_reads}
+use Rattle.layers.specs.Laws.Recode.{reads_shifted}
+use Rattle.layers.specs.Laws.LayersKeep.{parity_agrees, shift_agrees, parity_laws, shift_laws}
 use Rattle.layers.proofs.Faults.{first_fault}
 
 -- Parity: a byte's form is that byte with its parity

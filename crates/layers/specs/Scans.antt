@@ -1,7 +1,7 @@
 -- What the front of a string stands for below.
 use Rattle.std.specs.Prelude.{◌≡◌, ℕ, false, List, take, Some, None, Option, option_and_then}
 use Rattle.std.specs.Prelude.{sum_by}
-use Rattle.charset.specs.Strings.{joined}
+use Rattle.charset.specs.Strings.{with_byte}
 use Rattle.layers.specs.declared.recoding.moves.WrittenByte.{WrittenByte}
 use Rattle.layers.specs.declared.recoding.moves.WrittenByte.TheVariants.{One, Two}
 use Rattle.layers.specs.declared.recoded.scan.Scan.{Scan}
@@ -22,5 +22,5 @@ size_of r t = sum_by (λ b. form_size (r.form b)) t
 
 -- a string with a byte below behind, as it is written, if it then has at most four bytes
 abbrev pub extended : List ℕ → WrittenByte → Option (List ℕ)
-extended u (One x) = joined u x
-extended u (Two x y) = option_and_then (λ v. joined v y) (joined u x)
+extended u (One x) = with_byte u x
+extended u (Two x y) = option_and_then (λ v. with_byte v y) (with_byte u x)

@@ -1,9 +1,9 @@
 // A set under another form of its bytes.
 ghost use Rattle.std.specs.Prelude.{◌≡◌, ◌≤◌, length};
-ghost use Rattle.charset.specs.Sets.{set_of};
-ghost use Rattle.layers.specs.Recoding.{recoded, at_most_four, shifted};
+ghost use Rattle.layers.specs.Meanings.{meaning_of_recoded};
+ghost use Rattle.layers.specs.Recoding.{at_most_four, shifted};
 ghost use Rattle.layers.specs.Scans.{Scans, form_size, size_of, extended};
-ghost use Rattle.layers.specs.Recode.{recoded_laws};
+ghost use Rattle.layers.specs.Laws.Recode.{recoded_laws};
 
 use crate::cause::Cause;
 use crate::deeper::from_below;
@@ -90,11 +90,11 @@ fn recode<F: ByteForm>(form: &F, bytes: &[u8]) -> Option<Front>
 }
 
 impl<F: ByteForm, S: CharacterSet> CharacterSet for Recoded<F, S> {
-    ghost codings = { λ p. (recoded (F.ByteForm.recoding p.form) (set_of S.CharacterSet p.below)).codings };
+    ghost codings = { λ p. (meaning_of_recoded S.CharacterSet F.ByteForm p).codings };
 
-    ghost openings = { λ p. (recoded (F.ByteForm.recoding p.form) (set_of S.CharacterSet p.below)).openings };
+    ghost openings = { λ p. (meaning_of_recoded S.CharacterSet F.ByteForm p).openings };
 
-    ghost causes = { λ p. (recoded (F.ByteForm.recoding p.form) (set_of S.CharacterSet p.below)).causes };
+    ghost causes = { λ p. (meaning_of_recoded S.CharacterSet F.ByteForm p).causes };
 
     ghost lawful = { λ p. recoded_laws _ _ (F.ByteForm.agrees p.form) (S.CharacterSet.lawful p.below) };
 

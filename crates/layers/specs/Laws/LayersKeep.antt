@@ -18,7 +18,7 @@ use Rattle.layers.specs.Layers.{parity_step, parity_form, parity_bytes, parity, 
 use Rattle.layers.specs.Layers.{kept, sub, added, control, controls}
 use Rattle.charset.proofs.FrontLemmas.{reading_reads, reading_is, alone, no_value, answer_grows}
 use Rattle.layers.specs.Recoding.{Agrees}
-use Rattle.layers.specs.Recode.{recoded_laws, over_small}
+use Rattle.layers.specs.Laws.Recode.{recoded_laws, over_small}
 
 pub shift_agrees : Agrees shift_bytes
 shift_agrees = record {
