@@ -44,7 +44,7 @@ impl<S: CharacterSet> CharacterSet for Controls<S> {
 
     ghost causes = { λ p. (meaning_of_controls S.CharacterSet p).causes };
 
-    ghost lawful = { λ p. controls_laws p.chosen (S.CharacterSet.lawful p.below) };
+    ghost lawful = { λ p. controls_laws p.chosen (S.lawful p.below) };
 
     fn read(&self, bytes: &[u8]) -> Result<Reading, SetRefusal> {
         match (self.below.read(bytes), bytes) {

@@ -20,7 +20,7 @@ impl<S: CharacterSet> CharacterSet for Subrepertoire<S> {
 
     ghost causes = { λ p. (meaning_of_subrepertoire S.CharacterSet p).causes };
 
-    ghost lawful = { λ p. sub_laws p.list (S.CharacterSet.lawful p.below) };
+    ghost lawful = { λ p. sub_laws p.list (S.lawful p.below) };
 
     fn read(&self, bytes: &[u8]) -> Result<Reading, SetRefusal> {
         match self.below.read(bytes).map_err(from_below)? {

@@ -167,7 +167,7 @@ module _ (cs : List Bool) {m : Meaning} (l : Laws m) where
   pub from_below : (s : List ℕ) (c : ℕ) → Codes m s c → Codes (controls cs m) s c
   from_below s c p = rw p
 
-  bad_below : (s : List ℕ) → Unreadable (controls cs m) s → Unreadable m s
+  pub bad_below : (s : List ℕ) → Unreadable (controls cs m) s → Unreadable m s
   bad_below s h = (λ n c p. h.0 n c (from_below (take n s) c p), h.1)
 
   pub new : (c : ℕ) → added cs m c ≡ true → Codes (controls cs m) (c ∷ []) c
