@@ -13,8 +13,8 @@ use Rattle.layers.specs.Recoding.{Recoding, clean, below, ends, is_broken, recod
 use Rattle.layers.specs.CharacterList.{on_list}
 use Rattle.layers.specs.Layers.{sub, added, controls}
 use Rattle.charset.proofs.FrontLemmas.{reading_is}
-use Rattle.layers.specs.Recode.{codes_parts, codes_from, opens_parts, opens_from, below_take}
-use Rattle.layers.specs.LayersKeep.{kept_parts, control_parts, from_below, new}
+use Rattle.layers.specs.Laws.Recode.{codes_parts, codes_from, opens_parts, opens_from, below_take}
+use Rattle.layers.specs.Laws.LayersKeep.{kept_parts, control_parts, from_below, new}
 
 abbrev pub sub_read : List ℕ → ReadAnswer → ReadAnswer
 sub_read ds (Ok (Found c n)) = cond (on_list ds c) (Ok (Found c n)) (Err (own 37))
@@ -52,8 +52,8 @@ reads_sub ds {m} l s r h = go r (reading_is l s r h) h
     go (Ok Open) e h = h
     go (Err q) e h = ((λ j d p. h.0.0 j d (kept_parts ds l (take j s) d p).1, h.0.1), rw e)
 
-pub sub_answer : (ds : List ℕ) {m : Meaning} (l : Laws m) (s : List ℕ) (r t : ReadAnswer) → Reads m s r
-    → t ≡ sub_read ds r → Reads (sub ds m) s t
+pub sub_answer : (ds : List ℕ) {m : Meaning} (l : Laws m) (s : List ℕ) (r t : ReadAnswer)
+    → Reads m s r → t ≡ sub_read ds r → Reads (sub ds m) s t
 sub_answer ds l s r t h e = rw e (reads_sub ds l s r h)
 
 abbrev pub control_read : List Bool → Meaning → List ℕ → ReadAnswer → ReadAnswer
@@ -85,7 +85,8 @@ reads_controls cs {m} l s r h = go s r h
       ap up e,
     )
 
-    go : (s : List ℕ) (r : ReadAnswer) → Reads m s r → Reads (controls cs m) s (control_read cs m s r)
+    go : (s : List ℕ) (r : ReadAnswer) → Reads m s r
+        → Reads (controls cs m) s (control_read cs m s r)
     go s (Ok (Found c n)) h = (h.0, from_below cs l (take n s) c h.1)
     go s (Ok Open) h = h
     go [] (Err q) h = absurd (both_ways _ h.0.1 l.empty_opens)

@@ -9,14 +9,15 @@ use Rattle.charset.proofs.FrontLemmas.{reading_is, reading_bad, reading_reads}
 use Rattle.layers.specs.CharacterList.{on_list}
 use Rattle.layers.specs.Layers.{added, sub}
 use Rattle.layers.specs.Words.{SubMeaning, Added, ControlsMeaning}
-use Rattle.layers.specs.LayersKeep.{kept_parts, control_parts, added_parts, from_below, new}
+use Rattle.layers.specs.Laws.LayersKeep.{kept_parts, control_parts, added_parts, from_below}
+use Rattle.layers.specs.Laws.LayersKeep.{bad_below, new}
 
 pub sub_meaning : (ds : List ℕ) (m : Meaning) → Laws m → SubMeaning ds m
 sub_meaning ds m l = record {
   codes = λ s c p. let h = kept_parts ds l s c p in (h.1, h.0);
   coded_by = λ s c p e. rw (p, e) refl;
   opens = λ s. refl;
-  cause_37 = λ s c n h e. rw (reading_is l s (Ok (Found c n)) h) refl;
+  not_listed = λ s c n h e. rw (reading_is l s (Ok (Found c n)) h) refl;
   cause_below = λ s h. rw (reading_bad l s h) refl;
   causes_only = λ s u. go s u (reading m s) (reading_reads l s);
 }
@@ -55,4 +56,5 @@ controls_meaning chosen m l = record {
   control_coded = λ c h. new chosen l c (words_added chosen m l c h);
   opens = λ s. refl;
   cause_below = λ s. refl;
+  causes_only = bad_below chosen l;
 }

@@ -16,7 +16,7 @@ use Rattle.layers.specs.Depth.{own, up}
 use Rattle.layers.specs.Recoding.{Recoding, Agrees, before, shifted, below, ends, is_broken}
 use Rattle.layers.specs.Recoding.{recoded}
 use Rattle.layers.specs.Scans.{Scans, form_size, size_of}
-use Rattle.layers.specs.Recode.{below_front, reads_shifted}
+use Rattle.layers.specs.Laws.Recode.{below_front, reads_shifted}
 use Rattle.layers.proofs.LayerReads.{reads_found, reads_open, reads_refused, reads_own}
 
 pub shifted_size : (r : Recoding) (t u : List ℕ) → shifted r t ≡ Some u → length u ≡ size_of r t
@@ -54,7 +54,8 @@ module _ (r : Recoding) (m : Meaning) (a : Agrees r) (l : Laws m) (s : List ℕ)
       (rw below_here h.1))
 
   at_four : (b : Bool) → nat_le 4 (length s) ≡ b → is_broken (ends r false (take 4 s)) ≡ false
-      → IsOpening m (below r false (take 4 s)) → Reads (recoded r m) s (cond b (Err (own 36)) (Ok Open))
+      → IsOpening m (below r false (take 4 s))
+      → Reads (recoded r m) s (cond b (Err (own 36)) (Ok Open))
   at_four true h e o = reads_own r m a l s 36 o (inr (leb-true 4 (length s) h)) (rw e refl)
   at_four false h e o =
       let short : length s ≤ 3 = grind (arith, nat_tests) in

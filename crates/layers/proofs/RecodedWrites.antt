@@ -86,8 +86,8 @@ module _ (r : Recoding) (t : List ℕ) (i : ℕ) (u : List ℕ) (made : Made r t
     here : shifted r (drop i t) ≡ before (r.form (get_or t i 0)) (shifted r (drop (i + 1) t))
     here = ap (shifted r) (drop-cons t i 0 h) ∙ rw (add-one i) refl
 
-    pub made_more : (f : WrittenByte) (w : List ℕ) → r.form (get_or t i 0) ≡ Some f → extended u f ≡ Some w
-        → Made r t (i + 1) w
+    pub made_more : (f : WrittenByte) (w : List ℕ) → r.form (get_or t i 0) ≡ Some f
+        → extended u f ≡ Some w → Made r t (i + 1) w
     made_more f w k e =
         let x = extends u f w e in record {
           small = x.0;

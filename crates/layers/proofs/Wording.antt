@@ -24,9 +24,9 @@ use Rattle.layers.specs.Words.{in_parity, InParity, Shifts, BeginsShifted, Canno
 use Rattle.layers.specs.Words.{ParityMeaning, ShiftMeaning}
 use Rattle.charset.proofs.FrontLemmas.{reading_is, opening_passed, reads_on}
 use Rattle.charset.proofs.Places.{four}
-use Rattle.layers.specs.Recode.{codes_parts, codes_from, opens_parts, opens_from, shifted_reads}
-use Rattle.layers.specs.Recode.{reads_shifted}
-use Rattle.layers.specs.LayersKeep.{parity_agrees, shift_agrees, parity_laws, shift_laws}
+use Rattle.layers.specs.Laws.Recode.{codes_parts, codes_from, opens_parts, opens_from}
+use Rattle.layers.specs.Laws.Recode.{shifted_reads, reads_shifted}
+use Rattle.layers.specs.Laws.LayersKeep.{parity_agrees, shift_agrees, parity_laws, shift_laws}
 use Rattle.layers.proofs.Faults.{first_fault}
 
 -- Parity: a byte's form is that byte with its parity
@@ -235,8 +235,8 @@ module _ {r : Recoding} (a : Agrees r) (m : Meaning) where
         let w = wrong_join p false x (take (3 - length p) rest) f g in
         rw (e, w.0, w.1, reading_is l (below r false p) (Ok Open) h.2)
 
-    long_cause : (s t rest : List ℕ) → length s ≡ 4 → IsOpening m t → (shifted r t ≡ Some s) ⊎ Split s t
-        → (recoded r m).causes (s ++ rest) ≡ own 36
+    long_cause : (s t rest : List ℕ) → length s ≡ 4 → IsOpening m t
+        → (shifted r t ≡ Some s) ⊎ Split s t → (recoded r m).causes (s ++ rest) ≡ own 36
     long_cause s t rest h o d =
         let g = form_ends s t d in
         let e : take 4 (s ++ rest) ≡ s = rw (← h) (take-append_seam s rest) in
@@ -264,14 +264,15 @@ module _ {r : Recoding} (a : Agrees r) (m : Meaning) where
         × ((shifted r t ≡ Some (p ++ x ∷ [])) ⊎ Split (p ++ x ∷ []) t))
         ⊎ ((t : List ℕ) × (shifted r t ≡ Some (p ++ x ∷ [])) × Unreadable m t))
 
-    fault : (p : List ℕ) (x : ℕ) → IsOpening (recoded r m) p → Unreadable (recoded r m) (p ++ x ∷ [])
-        → Fault p x
+    fault : (p : List ℕ) (x : ℕ) → IsOpening (recoded r m) p
+        → Unreadable (recoded r m) (p ++ x ∷ []) → Fault p x
     fault p x o u = go (ends r false p) refl
       where
         s : List ℕ
         s = p ++ x ∷ []
 
-        known : (length p ≤ 3) × (is_broken (ends r false p) ≡ false) × IsOpening m (below r false p)
+        known : (length p ≤ 3) × (is_broken (ends r false p) ≡ false)
+            × IsOpening m (below r false p)
         known = opens_parts r m p o
 
         size : length s ≡ length p + 1
@@ -357,7 +358,7 @@ parity_meaning m l = record {
   opened_by =
       λ s t h o. form_opened parity_agrees m s t (rw (h.1, length-map) (l.opening_sized t o)) o
       (inl (parity_shifted t s h));
-  cause_34 = λ p rest x o k. own_cause parity_agrees m l p rest x o (λ _. odd x k) (λ _. refl);
+  odd_parity = λ p rest x o k. own_cause parity_agrees m l p rest x o (λ _. odd x k) (λ _. refl);
   cause_below = λ s t rest h b d. below_cause parity_agrees m l s t rest h b (parity_shifted t s d);
   causes_only = λ s b u.
       let f = first_fault (parity m) (parity_laws l).empty_opens s u in (
@@ -415,9 +416,9 @@ shift_meaning m l = record {
   opens =
       λ s o. let h = form_opens shift_agrees m s o in (h.0, (h.1.0, h.1.1, as_words s h.1.0 h.1.2));
   opened_by = λ s t h o d. form_opened shift_agrees m s t h o (as_form s t d);
-  cause_35 =
+  not_shifted =
       λ p rest x o d. own_cause shift_agrees m l p rest x o (cannot false p x d) (cannot' p x d);
-  cause_36 = λ s t rest h o d. long_cause shift_agrees m l s t rest h o (as_form s t d);
+  too_long = λ s t rest h o d. long_cause shift_agrees m l s t rest h o (as_form s t d);
   cause_below = λ s t rest h b d. below_cause shift_agrees m l s t rest h b (shifts_shifted t s d);
   causes_only =
       λ s u. let f = first_fault (shift m) (shift_laws l).empty_opens s u in

@@ -1,6 +1,5 @@
--- What becomes of a list that is filled with numbers.
-use Rattle.std.specs.Prelude.{◌≡◌, ℕ, ◌<◌, ◌≤◌, true, false, ◌⊎◌, List, length, Some, None, Ok, Err}
-use Rattle.std.specs.Prelude.{Result, ◌≢◌}
+-- Filling a list: which numbers make one, and on what grounds others are refused.
+use Rattle.std.specs.Prelude.{◌≡◌, ℕ, ◌<◌, ◌≤◌, true, false, ◌⊎◌, List, length, Some, None, ◌≢◌}
 use Rattle.charset.specs.Meaning.{Codings}
 use Rattle.layers.specs.declared.list.ListRefusal.{ListRefusal}
 use Rattle.layers.specs.CharacterList.{required, on_list, rises_at, Rising, Sound}
@@ -58,14 +57,9 @@ Ground k xs t = HasTooMany xs t ⊎ (IsNotIncreasing xs t ⊎ (Lacking xs t ⊎ 
 abbrev pub WithoutMemory : Codings → List ℕ → Told → Type 0
 WithoutMemory k xs t = (t ≡ record { number = 0; value = None }) × Acceptable k xs
 
-abbrev pub RefusedAs : Codings → List ℕ → Told → Type 0
-RefusedAs k xs t = Ground k xs t ⊎ WithoutMemory k xs t
-
--- the list becomes the numbers, or it is refused and stays as it was
-abbrev pub Filled : {U : Type 0} → Codings → List ℕ → List ℕ → Result U ListRefusal → List ℕ
-    → Type 0
-Filled k xs before (Ok _) after = Acceptable k xs × (after ≡ xs)
-Filled k xs before (Err why) after = RefusedAs k xs (list_told why) × (after ≡ before)
+-- the refusal has its ground, or is for want of memory
+abbrev pub RefusedAs : Codings → List ℕ → ListRefusal → Type 0
+RefusedAs k xs why = Ground k xs (list_told why) ⊎ WithoutMemory k xs (list_told why)
 
 -- numbers that fit have no ground, and no numbers have two
 pub record OneAnswer (k : Codings) (xs : List ℕ) : Type 0 where

@@ -5,7 +5,7 @@ pub mod Depth
 pub mod Causes
 pub mod Recoding
 pub mod Layers
+pub mod Meanings
 pub mod Words
 pub mod Scans
-pub mod LayersKeep
-pub mod Recode
+pub mod Laws

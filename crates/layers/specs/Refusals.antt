@@ -1,4 +1,4 @@
--- The number and the value that each refusal of a list is list_told by.
+-- The number and the value that each refusal of a list is told by.
 use Rattle.std.specs.Prelude.{ℕ, Some, None, Option}
 use Rattle.layers.specs.declared.list.ListRefusal.{ListRefusal}
 use Rattle.layers.specs.declared.list.ListRefusal.TheVariants.{TooMany, NotIncreasing, Missing}

@@ -6,7 +6,9 @@ use Rattle.std.specs.List.{AllByRecursion}
 use Rattle.charset.specs.declared.Reading.TheVariants.{Found}
 use Rattle.charset.specs.Answers.{Reads}
 use Rattle.charset.specs.Meaning.{Meaning, Codes, IsOpening, Unreadable}
-use Rattle.layers.specs.Depth.{own, up}
+use Rattle.layers.specs.declared.cause.Cause.TheVariants.{OddParity, NotShifted, TooLong, NotListed}
+use Rattle.layers.specs.Causes.{refusal}
+use Rattle.layers.specs.Depth.{up}
 use Rattle.layers.specs.CharacterList.{on_list}
 use Rattle.layers.specs.Layers.{parity, shift, sub, controls}
 
@@ -44,8 +46,8 @@ pub record ParityMeaning (m : Meaning) : Type 0 where
   pub opens : (s : List ℕ) → IsOpening (parity m) s → (t : List ℕ) × InParity t s × IsOpening m t
   pub opened_by : (s t : List ℕ) → InParity t s → IsOpening m t → IsOpening (parity m) s
   -- a byte with an odd number of ones, after an opening
-  pub cause_34 : (p rest : List ℕ) (x : ℕ) → IsOpening (parity m) p → count_ones x % 2 ≡ 1
-      → (parity m).causes (p ++ x ∷ rest) ≡ own 34
+  pub odd_parity : (p rest : List ℕ) (x : ℕ) → IsOpening (parity m) p → count_ones x % 2 ≡ 1
+      → (parity m).causes (p ++ x ∷ rest) ≡ refusal OddParity
   pub cause_below : (s t rest : List ℕ) → length s ≤ 4 → Unreadable m t → InParity t s
       → (parity m).causes (s ++ rest) ≡ up (m.causes t)
   -- there is no other cause
@@ -60,13 +62,14 @@ pub record ShiftMeaning (m : Meaning) : Type 0 where
       → Codes (shift m) s c
   pub opens : (s : List ℕ) → IsOpening (shift m) s
       → (length s ≤ 3) × ((t : List ℕ) × IsOpening m t × BeginsShifted t s)
-  pub opened_by : (s t : List ℕ) → length s ≤ 3 → IsOpening m t → BeginsShifted t s → IsOpening (shift m) s
+  pub opened_by : (s t : List ℕ) → length s ≤ 3 → IsOpening m t → BeginsShifted t s
+      → IsOpening (shift m) s
   -- a byte that cannot go on after an opening
-  pub cause_35 : (p rest : List ℕ) (x : ℕ) → IsOpening (shift m) p → CannotFollow p x
-      → (shift m).causes (p ++ x ∷ rest) ≡ own 35
+  pub not_shifted : (p rest : List ℕ) (x : ℕ) → IsOpening (shift m) p → CannotFollow p x
+      → (shift m).causes (p ++ x ∷ rest) ≡ refusal NotShifted
   -- open after four bytes
-  pub cause_36 : (s t rest : List ℕ) → length s ≡ 4 → IsOpening m t → BeginsShifted t s
-      → (shift m).causes (s ++ rest) ≡ own 36
+  pub too_long : (s t rest : List ℕ) → length s ≡ 4 → IsOpening m t → BeginsShifted t s
+      → (shift m).causes (s ++ rest) ≡ refusal TooLong
   -- a cause from below
   pub cause_below : (s t rest : List ℕ) → length s ≤ 4 → Unreadable m t → Shifts t s
       → (shift m).causes (s ++ rest) ≡ up (m.causes t)
@@ -82,8 +85,8 @@ pub record SubMeaning (ds : List ℕ) (m : Meaning) : Type 0 where
   pub coded_by : (s : List ℕ) (c : ℕ) → Codes m s c → on_list ds c ≡ true → Codes (sub ds m) s c
   pub opens : (s : List ℕ) → (sub ds m).openings s ≡ m.openings s
   -- a character off the list
-  pub cause_37 : (s : List ℕ) (c n : ℕ) → Reads m s (Ok (Found c n)) → on_list ds c ≡ false
-      → (sub ds m).causes s ≡ own 37
+  pub not_listed : (s : List ℕ) (c n : ℕ) → Reads m s (Ok (Found c n)) → on_list ds c ≡ false
+      → (sub ds m).causes s ≡ refusal NotListed
   pub cause_below : (s : List ℕ) → Unreadable m s → (sub ds m).causes s ≡ up (m.causes s)
   -- there is no other cause
   pub causes_only : (s : List ℕ) → Unreadable (sub ds m) s
@@ -102,4 +105,7 @@ pub record ControlsMeaning (chosen : List Bool) (m : Meaning) : Type 0 where
   pub coded_by : (s : List ℕ) (c : ℕ) → Codes m s c → Codes (controls chosen m) s c
   pub control_coded : (c : ℕ) → Added chosen m c → Codes (controls chosen m) (c ∷ []) c
   pub opens : (s : List ℕ) → (controls chosen m).openings s ≡ m.openings s
+  -- every cause is one from below
   pub cause_below : (s : List ℕ) → (controls chosen m).causes s ≡ up (m.causes s)
+  -- what is refused here is refused below
+  pub causes_only : (s : List ℕ) → Unreadable (controls chosen m) s → Unreadable m s

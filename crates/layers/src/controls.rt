@@ -2,8 +2,9 @@
 ghost use Rattle.std.specs.Prelude.{◌≡◌, [], ◌∷◌, is_err};
 ghost use Rattle.charset.specs.Answers.{reading};
 ghost use Rattle.charset.specs.Sets.{set_of};
-ghost use Rattle.layers.specs.Layers.{added, controls};
-ghost use Rattle.layers.specs.LayersKeep.{controls_laws};
+ghost use Rattle.layers.specs.Layers.{added};
+ghost use Rattle.layers.specs.Meanings.{meaning_of_controls};
+ghost use Rattle.layers.specs.Laws.LayersKeep.{controls_laws};
 
 use crate::deeper::from_below;
 use charset::{CharacterSet, Coding, Reading, SetRefusal};
@@ -37,13 +38,13 @@ impl<S: CharacterSet> Controls<S> {
 }
 
 impl<S: CharacterSet> CharacterSet for Controls<S> {
-    ghost codings = { λ p. (controls p.chosen (set_of S.CharacterSet p.below)).codings };
+    ghost codings = { λ p. (meaning_of_controls S.CharacterSet p).codings };
 
-    ghost openings = { λ p. (controls p.chosen (set_of S.CharacterSet p.below)).openings };
+    ghost openings = { λ p. (meaning_of_controls S.CharacterSet p).openings };
 
-    ghost causes = { λ p. (controls p.chosen (set_of S.CharacterSet p.below)).causes };
+    ghost causes = { λ p. (meaning_of_controls S.CharacterSet p).causes };
 
-    ghost lawful = { λ p. controls_laws p.chosen (S.CharacterSet.lawful p.below) };
+    ghost lawful = { λ p. controls_laws p.chosen (S.lawful p.below) };
 
     fn read(&self, bytes: &[u8]) -> Result<Reading, SetRefusal> {
         match (self.below.read(bytes), bytes) {

@@ -1,10 +1,10 @@
 // The two byte forms: even parity, and the single shift of 7-bit codes.
 ghost use Rattle.std.specs.Prelude.{◌≡◌};
 ghost use Rattle.layers.specs.Layers.{even, parity_bytes, shift_bytes};
-ghost use Rattle.layers.specs.LayersKeep.{parity_agrees, shift_agrees};
+ghost use Rattle.layers.specs.Laws.LayersKeep.{parity_agrees, shift_agrees};
 
 use crate::cause::Cause;
-use crate::recoding::{ByteForm, WrittenByte, Move};
+use crate::recoding::{ByteForm, Move, WrittenByte};
 use charset::SetRefusal;
 
 // Seven bits, and an eighth that makes the number of ones even.

@@ -16,6 +16,6 @@ pub use controls::Controls;
 pub use forms::{EvenParity, SingleShift};
 pub use list::{CharacterList, ListRefusal};
 pub use recoded::Recoded;
-pub use recoding::{ByteForm, WrittenByte, Move};
+pub use recoding::{ByteForm, Move, WrittenByte};
 pub use stack::{Parity, Shift, with_controls, with_list, with_parity, with_shift};
 pub use subrepertoire::Subrepertoire;

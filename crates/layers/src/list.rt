@@ -1,10 +1,10 @@
 // A subrepertoire's list of characters.
-ghost use Rattle.std.specs.Prelude.{◌≡◌, ◌<◌, length, IfOk, MatchOption, MatchResult};
+ghost use Rattle.std.specs.Prelude.{◌≡◌, ◌<◌, length, IfOk, IfErr, OnOk, OnErr, MatchOption};
 ghost use Rattle.layers.specs.declared.list.ListRefusal.TheVariants.{NoMemory};
 ghost use Rattle.layers.specs.CharacterList.{required, on_list, rises_at, Rising, Complete, Sound};
 ghost use Rattle.layers.specs.Refusals.{list_told};
 ghost use Rattle.layers.specs.Filled.{FirstNotRising, FirstMissing, FirstUncoded, AllCoded};
-ghost use Rattle.layers.specs.Filled.{Acceptable, Ground, Filled, OneAnswer};
+ghost use Rattle.layers.specs.Filled.{Acceptable, Ground, RefusedAs, OneAnswer};
 
 use charset::CharacterSet;
 use std::alloc::{AllocError, Global};
@@ -110,8 +110,11 @@ impl CharacterList {
         numbers: &[u32],
         set: &S,
     ) -> Result<(), ListRefusal>
-        ensures filled { Filled (S.CharacterSet.codings set.now) numbers.now self.old result self.new }
-        ensures one_answer { OneAnswer (S.CharacterSet.codings set.now) numbers.now }
+        ensures fit { OnOk result (Acceptable (S.codings set.now) numbers.now) }
+        ensures replaced { OnOk result (self.new ≡ numbers.now) }
+        ensures refused { IfErr result (RefusedAs (S.codings set.now) numbers.now) }
+        ensures kept { OnErr result (self.new ≡ self.old) }
+        ensures one_answer { OneAnswer (S.codings set.now) numbers.now }
     {
         check(numbers, set)?;
         self.characters = numbers.to_vec(heap)?;
@@ -121,7 +124,8 @@ impl CharacterList {
 
 // Whether numbers make a list, whatever memory there is, or why not.
 fn check<S: CharacterSet>(numbers: &[u32], set: &S) -> Result<(), ListRefusal>
-    ensures { MatchResult result (λ _. Acceptable (S.CharacterSet.codings set.now) numbers.now) (λ why. Ground (S.CharacterSet.codings set.now) numbers.now (list_told why)) }
+    ensures fit { OnOk result (Acceptable (S.codings set.now) numbers.now) }
+    ensures refused { IfErr result (λ why. Ground (S.codings set.now) numbers.now (list_told why)) }
 {
     if numbers.len() > MOST_CHARACTERS {
         return Err(ListRefusal::TooMany);
@@ -175,7 +179,8 @@ fn first_missing(numbers: &[u32]) -> Option<u32>
 // The smallest of the numbers, which rise, that has no coding in the set.
 fn first_uncoded<S: CharacterSet>(numbers: &[u32], set: &S) -> Option<u32>
     requires { Rising numbers.now }
-    ensures { MatchOption result (AllCoded (S.CharacterSet.codings set.now) numbers.now) (λ c. FirstUncoded (S.CharacterSet.codings set.now) numbers.now c) }
+    ensures { MatchOption result (AllCoded (S.codings set.now) numbers.now)
+        (FirstUncoded (S.codings set.now) numbers.now) }
 {
     numbers
         .iter()

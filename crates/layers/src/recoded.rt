@@ -1,13 +1,13 @@
 // A set under another form of its bytes.
 ghost use Rattle.std.specs.Prelude.{◌≡◌, ◌≤◌, length};
-ghost use Rattle.charset.specs.Sets.{set_of};
-ghost use Rattle.layers.specs.Recoding.{recoded, at_most_four, shifted};
+ghost use Rattle.layers.specs.Meanings.{meaning_of_recoded};
+ghost use Rattle.layers.specs.Recoding.{at_most_four, shifted};
 ghost use Rattle.layers.specs.Scans.{Scans, form_size, size_of, extended};
-ghost use Rattle.layers.specs.Recode.{recoded_laws};
+ghost use Rattle.layers.specs.Laws.Recode.{recoded_laws};
 
 use crate::cause::Cause;
 use crate::deeper::from_below;
-use crate::recoding::{ByteForm, WrittenByte, Move};
+use crate::recoding::{ByteForm, Move, WrittenByte};
 use charset::{CharacterSet, Coding, Front, Reading, SetRefusal};
 
 mod scan;
@@ -26,7 +26,7 @@ pub struct Recoded<F, S> {
 // The bytes below that the first four bytes stand for, up to one that cannot stand there. A loop,
 // since a byte can end it and what is held goes on.
 fn scan_front<F: ByteForm>(form: &F, string: &[u8]) -> Scan
-    ensures { Scans (F.ByteForm.recoding form.now) string.now result }
+    ensures { Scans (F.recoding form.now) string.now result }
 {
     let mut below = Front::empty();
     let mut held = false;
@@ -62,7 +62,7 @@ fn form_size(form: Option<WrittenByte>) -> usize
 // How many bytes here the bytes below are written in.
 fn written_size<F: ByteForm>(form: &F, string: &[u8]) -> usize
     requires { length string.now ≤ 4 }
-    ensures { result ≡ size_of (F.ByteForm.recoding form.now) string.now }
+    ensures { result ≡ size_of (F.recoding form.now) string.now }
 {
     string.iter().map(|byte| form_size(form.form(*byte))).sum()
 }
@@ -80,7 +80,7 @@ fn append(front: Front, form: WrittenByte) -> Option<Front>
 // The bytes below as they are written here, if they take at most four. A loop with `?`: as a fold
 // it is no shorter.
 fn recode<F: ByteForm>(form: &F, bytes: &[u8]) -> Option<Front>
-    ensures { result ≡ at_most_four (shifted (F.ByteForm.recoding form.now) bytes.now) }
+    ensures { result ≡ at_most_four (shifted (F.recoding form.now) bytes.now) }
 {
     let mut written = Front::empty();
     for byte in bytes {
@@ -90,13 +90,13 @@ fn recode<F: ByteForm>(form: &F, bytes: &[u8]) -> Option<Front>
 }
 
 impl<F: ByteForm, S: CharacterSet> CharacterSet for Recoded<F, S> {
-    ghost codings = { λ p. (recoded (F.ByteForm.recoding p.form) (set_of S.CharacterSet p.below)).codings };
+    ghost codings = { λ p. (meaning_of_recoded S.CharacterSet F.ByteForm p).codings };
 
-    ghost openings = { λ p. (recoded (F.ByteForm.recoding p.form) (set_of S.CharacterSet p.below)).openings };
+    ghost openings = { λ p. (meaning_of_recoded S.CharacterSet F.ByteForm p).openings };
 
-    ghost causes = { λ p. (recoded (F.ByteForm.recoding p.form) (set_of S.CharacterSet p.below)).causes };
+    ghost causes = { λ p. (meaning_of_recoded S.CharacterSet F.ByteForm p).causes };
 
-    ghost lawful = { λ p. recoded_laws _ _ (F.ByteForm.agrees p.form) (S.CharacterSet.lawful p.below) };
+    ghost lawful = { λ p. recoded_laws _ _ (F.agrees p.form) (S.lawful p.below) };
 
     fn read(&self, bytes: &[u8]) -> Result<Reading, SetRefusal> {
         let scan = scan_front(&self.form, bytes);

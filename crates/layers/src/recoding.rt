@@ -7,7 +7,7 @@ use charset::SetRefusal;
 
 pub mod moves;
 
-pub use moves::{WrittenByte, Move};
+pub use moves::{Move, WrittenByte};
 
 pub trait ByteForm {
     ghost recoding: { Self → Recoding };

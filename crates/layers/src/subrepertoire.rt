@@ -1,7 +1,6 @@
 // The characters of a set that stand on a list.
-ghost use Rattle.charset.specs.Sets.{set_of};
-ghost use Rattle.layers.specs.Layers.{sub};
-ghost use Rattle.layers.specs.LayersKeep.{sub_laws};
+ghost use Rattle.layers.specs.Meanings.{meaning_of_subrepertoire};
+ghost use Rattle.layers.specs.Laws.LayersKeep.{sub_laws};
 
 use crate::cause::Cause;
 use crate::deeper::from_below;
@@ -15,13 +14,13 @@ pub struct Subrepertoire<S> {
 }
 
 impl<S: CharacterSet> CharacterSet for Subrepertoire<S> {
-    ghost codings = { λ p. (sub p.list (set_of S.CharacterSet p.below)).codings };
+    ghost codings = { λ p. (meaning_of_subrepertoire S.CharacterSet p).codings };
 
-    ghost openings = { λ p. (sub p.list (set_of S.CharacterSet p.below)).openings };
+    ghost openings = { λ p. (meaning_of_subrepertoire S.CharacterSet p).openings };
 
-    ghost causes = { λ p. (sub p.list (set_of S.CharacterSet p.below)).causes };
+    ghost causes = { λ p. (meaning_of_subrepertoire S.CharacterSet p).causes };
 
-    ghost lawful = { λ p. sub_laws p.list (S.CharacterSet.lawful p.below) };
+    ghost lawful = { λ p. sub_laws p.list (S.lawful p.below) };
 
     fn read(&self, bytes: &[u8]) -> Result<Reading, SetRefusal> {
         match self.below.read(bytes).map_err(from_below)? {

@@ -1,4 +1,4 @@
-use Rattle.layers.specs.LayersKeep.{controls_laws}
+use Rattle.layers.specs.Laws.LayersKeep.{controls_laws}
 use Rattle.layers.proofs.MoreWording.{controls_meaning}
 use Rattle.layers.proofs.stack.with_controls.Goals as goal
 

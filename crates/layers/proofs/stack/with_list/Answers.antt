@@ -1,4 +1,4 @@
-use Rattle.layers.specs.LayersKeep.{sub_laws}
+use Rattle.layers.specs.Laws.LayersKeep.{sub_laws}
 use Rattle.layers.proofs.MoreWording.{sub_meaning}
 use Rattle.layers.proofs.stack.with_list.Goals as goal
 

@@ -1,4 +1,4 @@
-use Rattle.layers.specs.LayersKeep.{parity_laws}
+use Rattle.layers.specs.Laws.LayersKeep.{parity_laws}
 use Rattle.layers.proofs.Wording.{parity_meaning}
 use Rattle.layers.proofs.stack.with_parity.Goals as goal
 

@@ -1,4 +1,4 @@
-use Rattle.layers.specs.LayersKeep.{shift_laws}
+use Rattle.layers.specs.Laws.LayersKeep.{shift_laws}
 use Rattle.layers.proofs.Wording.{shift_meaning}
 use Rattle.layers.proofs.stack.with_shift.Goals as goal
 

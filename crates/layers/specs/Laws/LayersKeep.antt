@@ -18,7 +18,7 @@ use Rattle.layers.specs.Layers.{parity_step, parity_form, parity_bytes, parity, 
 use Rattle.layers.specs.Layers.{kept, sub, added, control, controls}
 use Rattle.charset.proofs.FrontLemmas.{reading_reads, reading_is, alone, no_value, answer_grows}
 use Rattle.layers.specs.Recoding.{Agrees}
-use Rattle.layers.specs.Recode.{recoded_laws, over_small}
+use Rattle.layers.specs.Laws.Recode.{recoded_laws, over_small}
 
 pub shift_agrees : Agrees shift_bytes
 shift_agrees = record {
@@ -167,7 +167,7 @@ module _ (cs : List Bool) {m : Meaning} (l : Laws m) where
   pub from_below : (s : List ℕ) (c : ℕ) → Codes m s c → Codes (controls cs m) s c
   from_below s c p = rw p
 
-  bad_below : (s : List ℕ) → Unreadable (controls cs m) s → Unreadable m s
+  pub bad_below : (s : List ℕ) → Unreadable (controls cs m) s → Unreadable m s
   bad_below s h = (λ n c p. h.0 n c (from_below (take n s) c p), h.1)
 
   pub new : (c : ℕ) → added cs m c ≡ true → Codes (controls cs m) (c ∷ []) c

@@ -1,0 +1,2 @@
+pub mod LayersKeep
+pub mod Recode
