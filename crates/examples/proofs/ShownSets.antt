@@ -12,7 +12,7 @@ use Rattle.sets.specs.Iso6937Table.{supplementary, diacritics}
 use Rattle.sets.specs.Iso6937Laws.{iso6937_laws}
 use Rattle.sets.specs.Utf8Laws.{utf8_laws}
 use Rattle.layers.specs.Depth.{own, up}
-use Rattle.layers.specs.LayersKeep.{shift_laws, parity_laws}
+use Rattle.layers.specs.Laws.LayersKeep.{shift_laws, parity_laws}
 use Rattle.examples.specs.SetsAndLayers.{WorkedExamples}
 
 pub by_reading : {m : Meaning} → Laws m → (s : List ℕ) (r : ReadAnswer) → reading m s ≡ r → Reads m s r

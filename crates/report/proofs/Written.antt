@@ -14,7 +14,7 @@ use Rattle.sets.proofs.SingleByteTables.{iso8859_16_once, sami_once}
 use Rattle.sets.specs.Utf8Laws.{utf8_laws, low_written}
 use Rattle.layers.specs.CharacterList.{required}
 use Rattle.layers.specs.Layers.{parity, shift, sub, controls}
-use Rattle.layers.specs.LayersKeep.{shift_laws, sub_laws, controls_laws}
+use Rattle.layers.specs.Laws.LayersKeep.{shift_laws, sub_laws, controls_laws}
 use Rattle.layers.proofs.Wording.{parity_meaning, shift_meaning}
 use Rattle.layers.proofs.MoreWording.{sub_meaning, controls_meaning}
 use Rattle.conversion.specs.declared.Fault.{Fault}

@@ -1,7 +1,7 @@
 -- Any stack of layers on a lawful set is lawful, and the whole law.
 use Rattle.std.proofs.Common.{List, [], ◌∷◌}
 use Rattle.charset.specs.Meaning.{Meaning, Laws}
-use Rattle.layers.specs.LayersKeep.{parity_laws, shift_laws, sub_laws, controls_laws}
+use Rattle.layers.specs.Laws.LayersKeep.{parity_laws, shift_laws, sub_laws, controls_laws}
 use Rattle.layers.proofs.Wording.{parity_meaning, shift_meaning}
 use Rattle.layers.proofs.MoreWording.{sub_meaning, controls_meaning}
 use Rattle.transcript.specs.Stacks.{Layer, parity_layer, shift_layer, subrepertoire_of, controls_of}
