@@ -123,7 +123,8 @@ pub fn single_byte(character: u32) -> Option<u8>
 // The letters that a diacritic may stand before, in the order of this table.
 pub fn letters_of(mark: u8) -> Option<&'static [(u8, u32)]>
     ensures diacritics { is_some result ≡ is_some (letters_of mark) }
-    ensures pairs { (letter : ℕ) → among letter (option_map (λ x. x.now) result) ≡ pair mark letter }
+    ensures pairs { (letter : ℕ) →
+        among letter (option_map (λ x. x.now) result) ≡ pair mark letter }
 {
     DIACRITICS.iter().find_map(|diacritic| (diacritic.mark == mark).then_some(diacritic.letters))
 }
