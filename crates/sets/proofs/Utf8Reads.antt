@@ -6,7 +6,7 @@ use Rattle.std.proofs.lemmas.Bool.{cond-false}
 use Rattle.charset.specs.Meaning.{Unreadable}
 use Rattle.charset.proofs.FrontLemmas.{unreadable_here}
 use Rattle.sets.specs.Utf8.{lead, second, tail, utf8}
-use Rattle.sets.specs.Utf8Laws.{utf8_laws}
+use Rattle.sets.specs.Laws.Utf8.{utf8_laws}
 
 pub bad_first : (s : List ℕ) → 1 ≤ length s → 0x80 ≤ get_or s 0 0 → lead (get_or s 0 0) ≡ false
     → Unreadable utf8 s

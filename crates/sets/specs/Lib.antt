@@ -3,13 +3,7 @@ pub mod Search
 pub mod Columns
 pub mod Iso6937Table
 pub mod Iso6937
-pub mod Utf8
 pub mod SingleByteTables
 pub mod SingleByte
-pub mod Iso6937Laws
-pub mod Tables
-pub mod CodeTable
-pub mod SearchLemmas
-pub mod TableFour
-pub mod SingleByteLaws
-pub mod Utf8Laws
+pub mod Utf8
+pub mod Laws

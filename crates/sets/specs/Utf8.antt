@@ -84,4 +84,5 @@ utf8 = meaning utf8_codings utf8_openings utf8_causes
 -- every opening is a proper beginning of a coding
 abbrev pub OpeningsBeginCodings : Type 0
 OpeningsBeginCodings =
-    (s : List ℕ) → IsOpening utf8 s → (t : List ℕ) × (c : ℕ) × (0 < length t) × Codes utf8 (s ++ t) c
+    (s : List ℕ) → IsOpening utf8 s
+    → (t : List ℕ) × (c : ℕ) × (0 < length t) × Codes utf8 (s ++ t) c

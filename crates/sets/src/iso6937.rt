@@ -1,6 +1,6 @@
 // ISO/IEC 6937:1994 in its 8-bit form: a letter's accent is a byte before it.
 ghost use Rattle.sets.specs.Iso6937.{iso6937_codings, iso6937_openings, iso6937_causes};
-ghost use Rattle.sets.specs.Iso6937Laws.{iso6937_laws};
+ghost use Rattle.sets.specs.Laws.Iso6937.{iso6937_laws};
 
 mod table;
 

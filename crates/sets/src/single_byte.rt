@@ -4,7 +4,7 @@ ghost use Rattle.sets.specs.Columns.{one_to_one};
 ghost use Rattle.sets.specs.SingleByte.{single_byte_codings, single_byte_openings};
 ghost use Rattle.sets.specs.SingleByte.{single_byte_causes};
 ghost use Rattle.sets.specs.SingleByteTables.{iso8859_16, sami};
-ghost use Rattle.sets.specs.SingleByteLaws.{single_byte_laws};
+ghost use Rattle.sets.specs.Laws.SingleByte.{single_byte_laws};
 
 use crate::cause::Cause;
 use crate::columns::CodeTable;

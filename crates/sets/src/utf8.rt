@@ -3,7 +3,7 @@ ghost use Rattle.std.specs.Prelude.{◌≡◌, ◌+◌, ◌-◌, ◌*◌, ◌^�
 ghost use Rattle.charset.specs.Answers.{Reads};
 ghost use Rattle.sets.specs.Utf8.{utf8, OpeningsBeginCodings, utf8_codings, utf8_openings};
 ghost use Rattle.sets.specs.Utf8.{utf8_causes, lead, second, tail, low_bits};
-ghost use Rattle.sets.specs.Utf8Laws.{utf8_laws};
+ghost use Rattle.sets.specs.Laws.Utf8.{utf8_laws};
 
 use crate::cause::Cause;
 use crate::reading::found;

@@ -1,10 +1,11 @@
 // ISO/IEC 6937:1994, Table 4: what the supplementary set codes in one byte, and the letters of each
 // diacritic.
-ghost use Rattle.std.specs.Prelude.{◌≡◌};
+ghost use Rattle.std.specs.Prelude.{◌≡◌, ℕ, is_some};
 ghost use Rattle.std.specs.Option.{option_map};
 ghost use Rattle.sets.specs.Columns.{byte_of};
 ghost use Rattle.sets.specs.Iso6937Table.{supplementary};
-ghost use Rattle.sets.specs.Iso6937.{single, letters_of, accented, letter_of, pair_of};
+ghost use Rattle.sets.specs.Iso6937.{single, letters_of, accented, letter_of, among, pair};
+ghost use Rattle.sets.specs.Iso6937.{pair_of};
 
 use crate::columns::CodeTable;
 
@@ -119,9 +120,11 @@ pub fn single_byte(character: u32) -> Option<u8>
     SUPPLEMENTARY.byte_of(character)
 }
 
-// The letters that a diacritic may stand before.
+// The letters that a diacritic may stand before, in the order of this table.
 pub fn letters_of(mark: u8) -> Option<&'static [(u8, u32)]>
-    ensures { option_map (λ x. x.now) result ≡ letters_of mark }
+    ensures diacritics { is_some result ≡ is_some (letters_of mark) }
+    ensures pairs { (letter : ℕ) →
+        among letter (option_map (λ x. x.now) result) ≡ pair mark letter }
 {
     DIACRITICS.iter().find_map(|diacritic| (diacritic.mark == mark).then_some(diacritic.letters))
 }

@@ -6,4 +6,4 @@ pub returns-in_err-letters : goal.returns-in_err-letters
 returns-in_err-letters c = search (rules, not_in_use)
 
 pub returns-in_err-character : goal.returns-in_err-character
-returns-in_err-character c = search (rules, no_pair)
+returns-in_err-character c = search (rules, no_pair, c.letters_of.ensures.pairs)

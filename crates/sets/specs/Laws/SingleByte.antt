@@ -1,15 +1,15 @@
--- A set of single bytes keeps the laws of a character set, and what it cannot read.
+-- A set of single bytes keeps the laws of a character set.
 use Rattle.std.specs.Prelude.{◌≡◌, ℕ, zero, suc, ◌<◌, ◌≤◌, true, List, [], ◌∷◌, length, take, Some}
-use Rattle.std.specs.Prelude.{None, Option, slice_index, refl}
+use Rattle.std.specs.Prelude.{None, Option, refl}
 use Rattle.std.proofs.Common.{sym, ap, ◌∙◌, arith}
 use Rattle.std.specs.Option.{option_map}
 use Rattle.std.specs.List.{AllByRecursion}
 use Rattle.std.proofs.lemmas.Option.{none-some, same_Some}
-use Rattle.charset.specs.Meaning.{NoFront, Unreadable, Laws}
-use Rattle.charset.proofs.FrontLemmas.{alone, unreadable_here}
-use Rattle.sets.specs.Columns.{character_at, byte_of, one_to_one}
+use Rattle.charset.specs.Meaning.{NoFront, Laws}
+use Rattle.charset.proofs.FrontLemmas.{alone}
+use Rattle.sets.specs.Columns.{byte_of, one_to_one}
 use Rattle.sets.specs.SingleByte.{single_byte_character, single_byte_openings, single_byte}
-use Rattle.sets.specs.CodeTable.{placed, standing}
+use Rattle.sets.specs.Laws.Columns.{placed, standing}
 
 module _ (columns : List (List ℕ)) (ok : one_to_one columns ≡ true) where
   written : (c : ℕ) (s : List ℕ) → option_map (λ b. b ∷ []) (byte_of columns c) ≡ Some s
@@ -83,8 +83,3 @@ module _ (columns : List (List ℕ)) (ok : one_to_one columns ≡ true) where
     cause_sized = λ s h. (omega arith, omega arith);
     cause_stays = λ s n h. refl;
   }
-
-  pub not_in_use : (s : List ℕ) → 0 < length s → character_at columns (slice_index s 0) ≡ None
-      → Unreadable (single_byte columns) s
-  not_in_use [] h e = absurd (omega arith)
-  not_in_use (b ∷ s) h e = unreadable_here single_byte_laws (b ∷ s) 0 refl e refl

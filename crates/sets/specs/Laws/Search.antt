@@ -1,11 +1,11 @@
--- A rule that a computed test shows of every entry of a table.
+-- What a search from the front finds, and what a test over a whole table shows of its entries.
 use Rattle.std.specs.Prelude.{◌≡◌, ℕ, zero, suc, ◌+◌, ◌<◌, ◌≤◌, Bool, true, false, ◌&&◌, List, []}
 use Rattle.std.specs.Prelude.{◌∷◌, Some, None, Option, ◌==◌, bytes_eq, refl}
 use Rattle.std.proofs.Common.{ap, ◌∙◌, inl, inr, arith}
 use Rattle.std.proofs.lemmas.Bool.{and_parts, cases_eq, eqb-true}
 use Rattle.std.proofs.lemmas.Option.{cond_some}
 use Rattle.std.proofs.lemmas.Slice.Eq.{bytes_eq-Decides}
-use Rattle.sets.specs.Search.{when, or_else, first_in, every_from}
+use Rattle.sets.specs.Search.{when, or_else, first_in, first_from, every_from}
 
 -- what a test on a number tells
 pub when_some : {A : Type 0} (a b : ℕ) (x y : A) → when (a == b) x ≡ Some y → (a ≡ b) × (x ≡ y)
@@ -30,6 +30,20 @@ found_passes {A} {B} p f (x ∷ xs) y all e =
     go None h g ok more = more g
     go (Some z) h g ok more = (x, ok, h ∙ g)
 
+module _ (p : ℕ → Bool) where
+  -- what is found passes, and lies where it was looked for
+  pub first_passes : (b n k : ℕ) → first_from p b n ≡ Some k → (b ≤ k) × (k < b + n) × (p k ≡ true)
+  unfolding first_from
+  first_passes b zero k e = cc
+  first_passes b (suc n) k e = go (p b) refl e (first_passes (suc b) n k)
+    where
+      go : (t : Bool) → p b ≡ t → or_else (when t b) (first_from p (suc b) n) ≡ Some k
+          → (first_from p (suc b) n ≡ Some k → (suc b ≤ k) × (k < suc b + n) × (p k ≡ true))
+          → (b ≤ k) × (k < b + suc n) × (p k ≡ true)
+      go true f g more = let same : b ≡ k = cc in (omega arith, omega arith, rw (← same) f)
+      go false f g more = let h = more g in (omega (arith, h.0), omega (arith, h.1), h.2)
+
+-- each number of a range that was tested passes
 pub every_at : (p : ℕ → Bool) (b n k : ℕ) → every_from p b n ≡ true → b ≤ k → k < b + n → p k ≡ true
 every_at p b zero k all h g = absurd (omega arith)
 every_at p b (suc n) k all h g =
@@ -39,6 +53,7 @@ every_at p b (suc n) k all h g =
       | inr d ↦ every_at p (suc b) n k both.1 (omega arith) (omega arith)
     ]
 
+-- a test whether the answer is this string
 abbrev pub is_string : List ℕ → Option (List ℕ) → Bool
 is_string s None = false
 is_string s (Some t) = bytes_eq t s

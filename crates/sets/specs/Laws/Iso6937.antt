@@ -15,8 +15,8 @@ use Rattle.sets.specs.Columns.{byte_of}
 use Rattle.sets.specs.Iso6937Table.{supplementary}
 use Rattle.sets.specs.Iso6937.{single, letters_of, among, pair, pair_of, iso6937_character}
 use Rattle.sets.specs.Iso6937.{iso6937_string, iso6937_openings, iso6937_causes, iso6937}
-use Rattle.sets.specs.CodeTable.{standing}
-use Rattle.sets.specs.TableFour.{single_at, accented_at, accented_of, mark_alone}
+use Rattle.sets.specs.Laws.Columns.{standing}
+use Rattle.sets.specs.Laws.Iso6937Table.{single_at, accented_at, accented_of, mark_alone}
 
 written : (c : ℕ) (s : List ℕ) → iso6937_string c ≡ Some s → iso6937_character s ≡ Some c
 written c s e = alone_or_pair (byte_of supplementary c) refl e
@@ -63,8 +63,8 @@ opening_sized (b ∷ []) e = omega arith
 opening_sized (a ∷ b ∷ s) e = cc
 
 -- an opening of one byte is a diacritic
-pub diacritic : (b : ℕ) → is_some (letters_of b) ≡ true → (b < 256) × (single b ≡ None)
-diacritic b e = go (letters_of b) refl e
+pub opening_mark : (b : ℕ) → is_some (letters_of b) ≡ true → (b < 256) × (single b ≡ None)
+opening_mark b e = go (letters_of b) refl e
   where
     go : (o : Option (List (ℕ × ℕ))) → letters_of b ≡ o → is_some o ≡ true
         → (b < 256) × (single b ≡ None)
@@ -73,7 +73,7 @@ diacritic b e = go (letters_of b) refl e
 
 opening_bytes : (s : List ℕ) → iso6937_openings s ≡ true → AllByRecursion (λ b. b < 256) s
 opening_bytes [] e = tt
-opening_bytes (b ∷ []) e = ((diacritic b e).0, tt)
+opening_bytes (b ∷ []) e = ((opening_mark b e).0, tt)
 opening_bytes (a ∷ b ∷ s) e = cc
 
 marks : (m l c : ℕ) → pair m l ≡ Some c → is_some (letters_of m) ≡ true
@@ -104,7 +104,7 @@ opening_begins (a ∷ b ∷ s) n e = cc
 
 no_coding : (s : List ℕ) (c : ℕ) → iso6937_openings s ≡ true → iso6937_character s ≢ Some c
 no_coding [] c o e = cc
-no_coding (b ∷ []) c o e = none-some _ (sym (diacritic b o).1 ∙ e)
+no_coding (b ∷ []) c o e = none-some _ (sym (opening_mark b o).1 ∙ e)
 no_coding (a ∷ b ∷ s) c o e = cc
 
 cause_sized : (s : List ℕ) → ((iso6937_causes s).cause < 256) × ((iso6937_causes s).depth < 256)

@@ -12,8 +12,8 @@ use Rattle.sets.specs.Columns.{is_character, one_to_one}
 use Rattle.sets.specs.Iso6937Table.{supplementary, diacritics}
 use Rattle.sets.specs.Iso6937.{single, letters_of, by_letter, by_character, letter_of, among, pair}
 use Rattle.sets.specs.Iso6937.{pair_of, iso6937_string}
-use Rattle.sets.specs.CodeTable.{is_this, placed, all_low, low_at}
-use Rattle.sets.specs.Tables.{when_some, every, found_passes, is_string, is_string_true}
+use Rattle.sets.specs.Laws.Columns.{is_this, placed, all_low, low_at}
+use Rattle.sets.specs.Laws.Search.{when_some, every, found_passes, is_string, is_string_true}
 
 -- the supplementary set: no character twice, and none beyond the surrogates
 one_place : one_to_one supplementary ≡ true

@@ -8,8 +8,7 @@ use Rattle.std.proofs.lemmas.Option.{same_Some}
 use Rattle.sets.specs.Search.{every_from}
 use Rattle.sets.specs.Columns.{ascii, upper_at, character_at, is_character, upper_of, byte_of}
 use Rattle.sets.specs.Columns.{placed_once, one_to_one}
-use Rattle.sets.specs.SearchLemmas.{first_passes}
-use Rattle.sets.specs.Tables.{every_at}
+use Rattle.sets.specs.Laws.Search.{first_passes, every_at}
 
 pub is_this : (c : ℕ) (o : Option ℕ) → is_character c o ≡ true → o ≡ Some c
 is_this c None e = cc
