@@ -1,3 +1,4 @@
 pub mod Chain
 pub mod Inside
 pub mod Built
+pub mod Packed

@@ -1,6 +1,6 @@
 -- How a builder holds its pages.
 use Rattle.std.specs.Prelude.{◌≡◌, ℕ, ◌+◌, ◌*◌, ◌≤◌, List, [], ◌∷◌, ◌++◌, length, take, drop}
-use Rattle.std.specs.Prelude.{sum_by}
+use Rattle.std.specs.Prelude.{sum_by, All}
 use Rattle.roll.specs.declared.builder.NewEntry.{NewEntry}
 use Rattle.roll.specs.Packed.{PackedPage, entry_of}
 
@@ -10,11 +10,12 @@ pages_in [] bytes = []
 pages_in (e ∷ es) bytes =
     record { form = e.form; bytes = take e.size bytes } ∷ pages_in es (drop e.size bytes)
 
--- the entries' sizes add up to all bytes, and a roll can hold them
+-- the entries' sizes add up to all bytes, and a roll can hold the pages
 pub record IsBuilt (entries : List NewEntry) (bytes : List ℕ) : Type 0 where
   pub few : length entries ≤ 1024
   pub sized : sum_by (λ e. e.size) entries ≡ length bytes
   pub small : length bytes + 12 * length entries + 16 ≤ 1048576
+  pub forms : All (λ e. e.form ≤ 7) entries
 
 -- the index of entries of which the first page begins at an offset
 abbrev pub index_of : (offset : ℕ) → List NewEntry → List ℕ

@@ -1,6 +1,6 @@
 -- The bytes of a roll as it is packed.
 use Rattle.std.specs.Prelude.{ℕ, ◌+◌, ◌*◌, ◌/◌, ◌%◌, ◌<◌, ◌≤◌, List, [], ◌∷◌, ◌++◌, length, Ok, Err}
-use Rattle.std.specs.Prelude.{Result}
+use Rattle.std.specs.Prelude.{Result, All}
 use Rattle.roll.specs.declared.pack_refusal.PackRefusal.{PackRefusal}
 use Rattle.roll.specs.declared.pack_refusal.PackRefusal.TheVariants.{UnknownForm, TooManyPages}
 use Rattle.roll.specs.declared.pack_refusal.PackRefusal.TheVariants.{TooLong, NoMemory}
@@ -35,15 +35,18 @@ trailer_of total count =
 
 -- the pages, the index and the trailer
 abbrev pub packed : List PackedPage → List ℕ
-packed ps = pages_joined ps ++ (index_from 0 ps ++ trailer_of (length (pages_joined ps)) (length ps))
+packed ps =
+    pages_joined ps ++ (index_from 0 ps ++ trailer_of (length (pages_joined ps)) (length ps))
 
 -- how many bytes pages and their index have
 abbrev pub used_by : List PackedPage → ℕ
 used_by ps = length (pages_joined ps) + 12 * length ps
 
 -- a roll can hold these pages
-abbrev pub FitsRoll : List PackedPage → Type 0
-FitsRoll ps = (length ps ≤ 1024) × (used_by ps + 16 ≤ 1048576)
+pub record FitsRoll (ps : List PackedPage) : Type 0 where
+  pub few : length ps ≤ 1024
+  pub short : used_by ps + 16 ≤ 1048576
+  pub forms : All (λ p. p.form ≤ 7) ps
 
 -- whether a roll can hold a page more: the first reason that it cannot
 abbrev pub RoomFor : {X : Type 0} → (form count used size : ℕ) → Result X PackRefusal → Type 0

@@ -37,6 +37,7 @@ impl Model for Builder {
 
 impl Builder {
     ghost use Rattle.roll.specs.Packed.{PackedPage, used_by, packed, RoomFor, FitsRoll};
+    ghost use Rattle.roll.specs.RollOf.{IsRollOf};
 
     // No pages yet.
     pub fn new(heap: Global) -> Builder
@@ -99,6 +100,7 @@ impl Builder {
     pub fn finish(self) -> Result<Vec<u8>, AllocError>
         ensures fits { FitsRoll self }
         ensures roll { IfOk result (λ roll. roll.items ≡ packed self) }
+        ensures opens { IfOk result (λ roll. IsRollOf self roll.items) }
     {
         let Builder { bytes, entries } = self;
         let total = bytes.len() as u32;
