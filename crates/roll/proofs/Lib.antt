@@ -2,3 +2,4 @@ pub mod Chain
 pub mod Inside
 pub mod Built
 pub mod Packed
+pub mod OneAnswer
