@@ -5,6 +5,7 @@ use Rattle.std.specs.Prelude.{All}
 use Rattle.std.proofs.lemmas.List.Elements.{All-nil, All-cons, All-head, All-tail}
 use Rattle.std.proofs.lemmas.Grind.{common_steps}
 use Rattle.std.proofs.lemmas.List.{take-append-drop, take-append-le, drop-append-le}
+use Rattle.roll.specs.declared.TheConstants.{LAST_FORM}
 use Rattle.roll.specs.declared.builder.NewEntry.{NewEntry}
 use Rattle.roll.specs.Packed.{PackedPage, pages_joined, index_from, trailer_of, packed}
 use Rattle.roll.specs.Packed.{FitsRoll}
@@ -57,12 +58,12 @@ packed-pages_in es bs h =
     rw (pages_joined-pages_in es bs h, index_from-pages_in 0 es bs h, length-pages_in es bs)
     (sym (append_assoc bs (index_of 0 es) (trailer_of (length bs) (length es))))
 
-forms-pages_in : (es : List NewEntry) (bs : List ℕ) → All (λ e. e.form ≤ 7) es
-    → All (λ p. p.form ≤ 7) (pages_in es bs)
-forms-pages_in [] bs h = All-nil (λ p. p.form ≤ 7)
+forms-pages_in : (es : List NewEntry) (bs : List ℕ) → All (λ e. e.form ≤ LAST_FORM) es
+    → All (λ p. p.form ≤ LAST_FORM) (pages_in es bs)
+forms-pages_in [] bs h = All-nil (λ p. p.form ≤ LAST_FORM)
 forms-pages_in (e ∷ es) bs h =
-    All-cons (λ p. p.form ≤ 7) _ _ (All-head (λ x. x.form ≤ 7) e es h)
-    (forms-pages_in es (drop e.size bs) (All-tail (λ x. x.form ≤ 7) e es h))
+    All-cons (λ p. p.form ≤ LAST_FORM) _ _ (All-head (λ x. x.form ≤ LAST_FORM) e es h)
+    (forms-pages_in es (drop e.size bs) (All-tail (λ x. x.form ≤ LAST_FORM) e es h))
 
 -- a roll can hold the pages that a builder holds
 pub fits_roll : (es : List NewEntry) (bs : List ℕ) (ps : List PackedPage) → IsBuilt es bs

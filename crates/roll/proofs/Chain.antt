@@ -2,6 +2,7 @@
 use Rattle.std.proofs.Common.{◌≡◌, ℕ, zero, suc, ◌+◌, ◌<◌, ◌≤◌, true, false, eqb, leb, List, ◌++◌}
 use Rattle.std.proofs.Common.{take, sym, refl, ap, ◌∙◌, subst, inl, inr, add-one, arith, take-add}
 use Rattle.std.proofs.lemmas.Bool.{cases_lt, and_parts, eqb-true, eq-eqb, cond-true}
+use Rattle.roll.specs.declared.TheConstants.{LAST_FORM}
 use Rattle.roll.specs.Format.{index_offset, page_count, offset, size, form, padded, starts}
 use Rattle.roll.specs.Format.{entry_holds, sizes, NoPagesNoBytes, Entries, page_bytes, joined}
 use Rattle.roll.specs.Opened.{FirstBad}
@@ -13,7 +14,7 @@ holds_start b k h = eqb-true _ _ (and_parts _ _ h).0
 pub holds_last : (b : List ℕ) (k : ℕ) → entry_holds b k ≡ true → k + 1 ≡ page_count b
     → offset b k + size b k ≡ index_offset b
 holds_last b k h e =
-    let l = (and_parts (padded b k) _ (and_parts (leb (form b k) 7) _
+    let l = (and_parts (padded b k) _ (and_parts (leb (form b k) LAST_FORM) _
     (and_parts (eqb (offset b k) (starts b k)) _ h).1).1).1 in
     eqb-true _ _ (sym (cond-true (eqb (k + 1) (page_count b)) _ true (eq-eqb _ _ e)) ∙ l)
 

@@ -8,6 +8,8 @@ use Rattle.std.proofs.lemmas.List.{get_or-append-add, get_or_append_left, length
 use Rattle.std.proofs.lemmas.Option.{slice_get_within, slice_get_cases}
 use Rattle.std.proofs.lemmas.List.Elements.{All-get_or}
 use Rattle.std.proofs.lemmas.Bool.{cond_both, and_from, eq-eqb, eqb-true, le-leb}
+use Rattle.roll.specs.declared.TheConstants.{LAST_FORM}
+use Rattle.roll.specs.declared.roll.TheConstants.{MARK}
 use Rattle.roll.specs.Format.{word, index_offset, page_count, total, mark, entry, offset, size}
 use Rattle.roll.specs.Format.{form, padded, starts, last_ends, entry_holds, sizes, page_bytes}
 use Rattle.roll.specs.Format.{Entries, NoPagesNoBytes}
@@ -102,7 +104,7 @@ module _ (ps : List PackedPage) where
       in_trailer (length (packed ps) - 8) 8 (omega (arith, packed_length))
       ∙ word_of_four (length (pages_joined ps)) []
 
-  packed_mark : mark (packed ps) ≡ 0x524f4c4c
+  packed_mark : mark (packed ps) ≡ MARK
   packed_mark = in_trailer (length (packed ps) - 4) 12 (omega (arith, packed_length))
 
   -- a page's entry in the index
@@ -206,21 +208,22 @@ module _ (ps : List PackedPage) where
       cond_both (k + 1 == page_count (packed ps)) _ true (λ z. z ≡ true)
       (λ e. eq-eqb _ _ (ends (eqb-true _ _ e))) (λ _. refl)
 
-  packed_holds : (k : ℕ) (p : PackedPage) → slice_get ps k ≡ Some p → p.form ≤ 7
+  packed_holds : (k : ℕ) (p : PackedPage) → slice_get ps k ≡ Some p → p.form ≤ LAST_FORM
       → entry_holds (packed ps) k ≡ true
   packed_holds k p h f =
       let start : offset (packed ps) k ≡ starts (packed ps) k =
       packed_offset k p h ∙ sym (packed_starts k (omega (arith, slice_get_within ps k p h))) in
-      let known : form (packed ps) k ≤ 7 = subst (λ n. n ≤ 7) (sym (packed_form k p h)) f in
+      let known : form (packed ps) k ≤ LAST_FORM =
+      subst (λ n. n ≤ LAST_FORM) (sym (packed_form k p h)) f in
       and_from _ _ (eq-eqb _ _ start) (and_from _ _ (le-leb _ _ known)
       (and_from _ _ (packed_padded k p h) (packed_last k p h)))
 
-  packed_entries : All (λ p. p.form ≤ 7) ps → Entries (packed ps)
+  packed_entries : All (λ p. p.form ≤ LAST_FORM) ps → Entries (packed ps)
   packed_entries forms k l =
       elim (slice_get_cases ps k).1 [
         | inl (p, here, h, same) ↦
-            let f = All-get_or (λ q. q.form ≤ 7) ps k p here forms in
-            packed_holds k p h (subst (λ q. q.form ≤ 7) same f)
+            let f = All-get_or (λ q. q.form ≤ LAST_FORM) ps k p here forms in
+            packed_holds k p h (subst (λ q. q.form ≤ LAST_FORM) same f)
         | inr past ↦ absurd (omega (arith, packed_count))
       ]
 

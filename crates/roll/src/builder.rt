@@ -59,7 +59,7 @@ impl Builder {
     // The bytes of the roll as it stands.
     #[tactic(auto, using(crate::proofs::Built::the_pages))]
     fn size(&self) -> usize
-        ensures size { result ≡ used_by self.now + 16 }
+        ensures size { result ≡ used_by self.now + TRAILER_BYTES }
         ensures fits { FitsRoll self.now }
     {
         self.bytes.len() + ENTRY_BYTES * self.entries.len() + TRAILER_BYTES
@@ -113,7 +113,7 @@ impl Builder {
 
 // The index, an entry to a page. A loop with `?`: as a fold over the offset it is no shorter.
 fn write_index(roll: &mut Vec<u8>, entries: &[NewEntry]) -> Result<(), AllocError>
-    requires { sum_by (λ e. e.size) entries.now ≤ 1048576 }
+    requires { sum_by (λ e. e.size) entries.now ≤ LARGEST_ROLL }
     ensures { OnOk result (roll.new.items ≡ roll.old.items ++ index_of 0 entries.now) }
 {
     let mut offset = 0u32;

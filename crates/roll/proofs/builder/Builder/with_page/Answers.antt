@@ -1,6 +1,7 @@
 use Rattle.std.proofs.Common.{◌≡◌, ◌≤◌, [], ◌∷◌, ◌++◌, length, arith, sym, ap, ◌∙◌, rules}
 use Rattle.std.proofs.lemmas.Grind.{common_steps}
 use Rattle.std.proofs.lemmas.List.Elements.{All-push}
+use Rattle.roll.specs.declared.TheConstants.{LAST_FORM}
 use Rattle.roll.proofs.Built.{length-pages_in, pages_joined-pages_in}
 use Rattle.roll.specs.Packed.{pages_joined}
 use Rattle.roll.proofs.builder.Builder.with_page.Goals as goal
@@ -20,6 +21,6 @@ invariant_of-result c =
       sized = grind (arith, common_steps);
       small = grind (arith, common_steps);
       forms =
-          All-push (λ e. e.form ≤ 7) b.entries.items _ c.self.invariant.forms
+          All-push (λ e. e.form ≤ LAST_FORM) b.entries.items _ c.self.invariant.forms
           c.if-form-gt-LAST_FORM.false;
     })
