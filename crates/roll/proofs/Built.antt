@@ -71,7 +71,7 @@ pub fits_roll : (es : List NewEntry) (bs : List ℕ) (ps : List PackedPage) → 
 fits_roll es bs ps h e =
     subst FitsRoll e (record {
       few = omega (arith, length-pages_in es bs, h.few);
-      short = rw (pages_joined-pages_in es bs h.sized, length-pages_in es bs) h.small;
+      short = rw (pages_joined-pages_in es bs h.adds_up, length-pages_in es bs) h.short;
       forms = forms-pages_in es bs h.forms;
     })
 

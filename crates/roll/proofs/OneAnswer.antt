@@ -4,13 +4,13 @@ use Rattle.std.proofs.Common.{inl, inr}
 use Rattle.std.proofs.lemmas.Bool.{cases_order}
 use Rattle.roll.specs.declared.refusal.RollRefusal.{RollRefusal}
 use Rattle.roll.specs.declared.refusal.RollRefusal.TheVariants.{BadEntry}
-use Rattle.roll.specs.Format.{NoPagesNoBytes, Entries}
+use Rattle.roll.specs.Format.{NoPagesNoBytes, EntriesHold}
 use Rattle.roll.specs.Opened.{FirstBad, Refuses, Accepted, OneAnswer}
 use Rattle.roll.specs.Opened.Refuses.{wrong_size, no_mark, wrong_index, bad_entry, wrong_total}
 
 module _ (b : List ℕ) where
   -- an entry that breaks a rule is not one of entries that keep the rules
-  bad_here : (k : ℕ) → FirstBad b k → NoPagesNoBytes b → ¬ Entries b
+  bad_here : (k : ℕ) → FirstBad b k → NoPagesNoBytes b → ¬ EntriesHold b
   bad_here zero h none all = h.1 (none h.0)
   bad_here (suc k) h none all = absurd (cc (all k h.0))
 

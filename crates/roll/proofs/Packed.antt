@@ -12,7 +12,7 @@ use Rattle.roll.specs.declared.TheConstants.{LAST_FORM}
 use Rattle.roll.specs.declared.roll.TheConstants.{MARK}
 use Rattle.roll.specs.Format.{word, index_offset, page_count, total, mark, entry, offset, size}
 use Rattle.roll.specs.Format.{form, padded, starts, last_ends, entry_holds, sizes, page_bytes}
-use Rattle.roll.specs.Format.{Entries, NoPagesNoBytes}
+use Rattle.roll.specs.Format.{EntriesHold, NoPagesNoBytes}
 use Rattle.roll.specs.Packed.{PackedPage, in_four, entry_of, pages_joined, index_from, trailer_of}
 use Rattle.roll.specs.Packed.{packed, FitsRoll}
 use Rattle.roll.specs.RollOf.{IsRollOf}
@@ -218,7 +218,7 @@ module _ (ps : List PackedPage) where
       and_from _ _ (eq-eqb _ _ start) (and_from _ _ (le-leb _ _ known)
       (and_from _ _ (packed_padded k p h) (packed_last k p h)))
 
-  packed_entries : All (λ p. p.form ≤ LAST_FORM) ps → Entries (packed ps)
+  packed_entries : All (λ p. p.form ≤ LAST_FORM) ps → EntriesHold (packed ps)
   packed_entries forms k l =
       elim (slice_get_cases ps k).1 [
         | inl (p, here, h, same) ↦

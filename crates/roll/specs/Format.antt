@@ -77,8 +77,8 @@ Indexed b =
 abbrev pub NoPagesNoBytes : List ℕ → Type 0
 NoPagesNoBytes b = page_count b ≡ 0 → index_offset b ≡ 0
 
-abbrev pub Entries : List ℕ → Type 0
-Entries b = (k : ℕ) → k < page_count b → entry_holds b k ≡ true
+abbrev pub EntriesHold : List ℕ → Type 0
+EntriesHold b = (k : ℕ) → k < page_count b → entry_holds b k ≡ true
 
 abbrev pub Totalled : List ℕ → Type 0
 Totalled b = total b ≡ sizes b (page_count b)

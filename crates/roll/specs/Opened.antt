@@ -4,7 +4,7 @@ use Rattle.roll.specs.declared.refusal.RollRefusal.{RollRefusal}
 use Rattle.roll.specs.declared.refusal.RollRefusal.TheVariants.{WrongSize, NoMark, WrongIndex}
 use Rattle.roll.specs.declared.refusal.RollRefusal.TheVariants.{BadEntry, WrongTotal}
 use Rattle.roll.specs.Format.{index_offset, page_count, entry_holds, sizes, Sized, Marked, Indexed}
-use Rattle.roll.specs.Format.{NoPagesNoBytes, Entries, Totalled, joined}
+use Rattle.roll.specs.Format.{NoPagesNoBytes, EntriesHold, Totalled, joined}
 
 -- the first entry, from 1, that breaks a rule; 0 where there are no pages and the index does not
 -- begin at 0
@@ -15,7 +15,7 @@ FirstBad b (suc k) =
 
 -- the sum of the lengths, where every entry keeps the rules
 abbrev pub Checked : List ℕ → Result ℕ RollRefusal → Type 0
-Checked b (Ok sum) = NoPagesNoBytes b × Entries b × (sum ≡ sizes b (page_count b))
+Checked b (Ok sum) = NoPagesNoBytes b × EntriesHold b × (sum ≡ sizes b (page_count b))
 Checked b (Err e) = (n : ℕ) × (e ≡ BadEntry n) × FirstBad b n
 
 -- each refusal comes exactly when its rule is broken and none before it
@@ -24,7 +24,7 @@ pub data Refuses (b : List ℕ) : RollRefusal → Type 0 where
   no_mark : Sized b → ¬ Marked b → Refuses b NoMark
   wrong_index : Sized b → Marked b → ¬ Indexed b → Refuses b WrongIndex
   bad_entry : (n : ℕ) → Sized b → Marked b → Indexed b → FirstBad b n → Refuses b (BadEntry n)
-  wrong_total : Sized b → Marked b → Indexed b → NoPagesNoBytes b → Entries b → ¬ Totalled b
+  wrong_total : Sized b → Marked b → Indexed b → NoPagesNoBytes b → EntriesHold b → ¬ Totalled b
       → Refuses b WrongTotal
 
 -- a roll that keeps every rule; its pages, joined, are all that comes before the index
@@ -33,7 +33,7 @@ pub record Accepted (b : List ℕ) : Type 0 where
   pub marked : Marked b
   pub indexed : Indexed b
   pub no_pages_no_bytes : NoPagesNoBytes b
-  pub entries : Entries b
+  pub entries : EntriesHold b
   pub totalled : Totalled b
   pub covered : joined b (page_count b) ≡ take (index_offset b) b
 

@@ -2,7 +2,7 @@
 use Rattle.std.specs.Prelude.{ℕ, ◌+◌, ◌*◌, ◌/◌, ◌%◌, ◌<◌, ◌≤◌, List, [], ◌∷◌, ◌++◌, length, Ok, Err}
 use Rattle.std.specs.Prelude.{Result, All, codes}
 use Rattle.roll.specs.declared.pack_refusal.PackRefusal.{PackRefusal}
-use Rattle.roll.specs.declared.pack_refusal.PackRefusal.TheVariants.{UnknownForm, TooManyPages}
+use Rattle.roll.specs.declared.pack_refusal.PackRefusal.TheVariants.{FormTooHigh, TooManyPages}
 use Rattle.roll.specs.declared.pack_refusal.PackRefusal.TheVariants.{TooLong, NoMemory}
 use Rattle.roll.specs.declared.TheConstants.{LARGEST_ROLL, MOST_PAGES, ENTRY_BYTES, TRAILER_BYTES}
 use Rattle.roll.specs.declared.TheConstants.{LAST_FORM}
@@ -10,6 +10,9 @@ use Rattle.roll.specs.declared.TheConstants.{LAST_FORM}
 pub record PackedPage : Type 0 where
   pub form : ℕ
   pub bytes : List ℕ
+
+abbrev pub page_of : (form : ℕ) → (bytes : List ℕ) → PackedPage
+page_of form bytes = record { form = form; bytes = bytes }
 
 -- a number in four bytes, the highest first
 abbrev pub in_four : ℕ → List ℕ
@@ -51,16 +54,16 @@ pub record FitsRoll (ps : List PackedPage) : Type 0 where
   pub forms : All (λ p. p.form ≤ LAST_FORM) ps
 
 -- how many bytes a roll has with a page more
-abbrev pub roll_size : (used size : ℕ) → ℕ
-roll_size used size = used + ENTRY_BYTES + size + TRAILER_BYTES
+abbrev pub size_with : (used size : ℕ) → ℕ
+size_with used size = used + ENTRY_BYTES + size + TRAILER_BYTES
 
 -- whether a roll can hold a page more: the first reason that it cannot
 abbrev pub RoomFor : {X : Type 0} → (form count used size : ℕ) → Result X PackRefusal → Type 0
 RoomFor form count used size (Ok b) =
-    (form ≤ LAST_FORM) × (count < MOST_PAGES) × (roll_size used size ≤ LARGEST_ROLL)
-RoomFor form count used size (Err UnknownForm) = LAST_FORM < form
+    (form ≤ LAST_FORM) × (count < MOST_PAGES) × (size_with used size ≤ LARGEST_ROLL)
+RoomFor form count used size (Err FormTooHigh) = LAST_FORM < form
 RoomFor form count used size (Err TooManyPages) = (form ≤ LAST_FORM) × (MOST_PAGES ≤ count)
 RoomFor form count used size (Err TooLong) =
-    (form ≤ LAST_FORM) × (count < MOST_PAGES) × (LARGEST_ROLL < roll_size used size)
+    (form ≤ LAST_FORM) × (count < MOST_PAGES) × (LARGEST_ROLL < size_with used size)
 RoomFor form count used size (Err NoMemory) =
-    (form ≤ LAST_FORM) × (count < MOST_PAGES) × (roll_size used size ≤ LARGEST_ROLL)
+    (form ≤ LAST_FORM) × (count < MOST_PAGES) × (size_with used size ≤ LARGEST_ROLL)

@@ -7,7 +7,7 @@ use Rattle.roll.specs.declared.page.Page.TheVariants.{Text, Picture}
 use Rattle.roll.specs.Forms.{form_number}
 use Rattle.roll.specs.Format.{page_count, offset, form, page_bytes}
 
--- the page is the part of the roll that its entry, the k-th from 0, tells, with its offset
+-- the page is the part of the roll that its entry, the k-th from 0, names, with its offset
 abbrev pub PartAt : List ℕ → ℕ → Page → Type 0
 PartAt b k (Text f part at) =
     (form b k ≡ form_number f) × (part.now ≡ page_bytes b k) × (at ≡ offset b k)

@@ -4,11 +4,11 @@ use Rattle.roll.specs.Format.{page_count, offset, form, page_bytes}
 use Rattle.roll.specs.Opened.{Accepted}
 use Rattle.roll.specs.Packed.{PackedPage, pages_joined}
 
--- the k-th page of a roll, from 0, is this one, and begins at a place
-pub record HasPage (b : List ℕ) (k begins : ℕ) (p : PackedPage) : Type 0 where
+-- the k-th page of a roll, from 0, is this one, and starts at this offset
+pub record HasPage (b : List ℕ) (k start : ℕ) (p : PackedPage) : Type 0 where
   pub its_form : form b k ≡ p.form
   pub its_bytes : page_bytes b k ≡ p.bytes
-  pub its_offset : offset b k ≡ begins
+  pub its_offset : offset b k ≡ start
 
 -- the roll opens, and its pages are these, each where the ones before it end
 pub record IsRollOf (ps : List PackedPage) (b : List ℕ) : Type 0 where

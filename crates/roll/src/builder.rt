@@ -36,7 +36,7 @@ impl Model for Builder {
 }
 
 impl Builder {
-    ghost use Rattle.roll.specs.Packed.{PackedPage, used_by, packed, RoomFor, FitsRoll};
+    ghost use Rattle.roll.specs.Packed.{PackedPage, page_of, used_by, packed, RoomFor, FitsRoll};
     ghost use Rattle.roll.specs.RollOf.{IsRollOf};
 
     // No pages yet.
@@ -58,7 +58,7 @@ impl Builder {
 
     // The bytes of the roll as it stands.
     #[tactic(auto, using(crate::proofs::Built::the_pages))]
-    fn size(&self) -> usize
+    fn roll_size(&self) -> usize
         ensures size { result ≡ used_by self.now + TRAILER_BYTES }
         ensures fits { FitsRoll self.now }
     {
@@ -71,16 +71,16 @@ impl Builder {
     pub fn with_page(self, form: u8, page: &[u8]) -> Result<Builder, PackRefusal>
         ensures fits { FitsRoll self }
         ensures room { RoomFor form (length self) (used_by self) (length page.now) result }
-        ensures added { IfOk result (λ b. b ≡ self ++ record { form = form; bytes = page.now } ∷ []) }
+        ensures added { IfOk result (λ b. b ≡ self ++ page_of form page.now ∷ []) }
     {
-        let size = self.size() + ENTRY_BYTES + page.len();
+        let roll_size = self.roll_size() + ENTRY_BYTES + page.len();
         if form > LAST_FORM {
-            return Err(PackRefusal::UnknownForm);
+            return Err(PackRefusal::FormTooHigh);
         }
         if self.page_count() >= MOST_PAGES {
             return Err(PackRefusal::TooManyPages);
         }
-        if size > LARGEST_ROLL {
+        if roll_size > LARGEST_ROLL {
             return Err(PackRefusal::TooLong);
         }
         let Builder {

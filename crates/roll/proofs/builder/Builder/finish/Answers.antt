@@ -8,7 +8,7 @@ use Rattle.roll.proofs.builder.Builder.finish.Goals as goal
 pub returns-clause-roll : goal.returns-clause-roll
 returns-clause-roll c =
     let b = c.self.inside in
-    let p = packed-pages_in b.entries.items b.bytes.items c.self.invariant.sized in
+    let p = packed-pages_in b.entries.items b.bytes.items c.self.invariant.adds_up in
     let total : c.len-total.result ≡ length b.bytes.items = search rules in
     let count : c.len.result ≡ length b.entries.items = search rules in
     rw (

@@ -13,13 +13,13 @@ invariant_of-result c =
     ap length (sym c.self.view_is) ∙ length-pages_in b.entries.items b.bytes.items in
     let size : pages_joined c.args.self ≡ b.bytes.items =
     ap pages_joined (sym c.self.view_is) ∙ pages_joined-pages_in b.entries.items b.bytes.items
-    c.self.invariant.sized in
+    c.self.invariant.adds_up in
     let pushed : c.push.new.self.items ≡ b.entries.items
     ++ record { form = c.args.form; size = length c.args.page.now } ∷ [] = search rules in
     rw (pushed, c.in_ok-extend_from_slice.ensures.items) (record {
       few = grind (arith, common_steps);
-      sized = grind (arith, common_steps);
-      small = grind (arith, common_steps);
+      adds_up = grind (arith, common_steps);
+      short = grind (arith, common_steps);
       forms =
           All-push (λ e. e.form ≤ LAST_FORM) b.entries.items _ c.self.invariant.forms
           c.if-form-gt-LAST_FORM.false;
