@@ -95,7 +95,7 @@ impl Builder {
         Ok(Builder { bytes, entries })
     }
 
-    // The roll: the pages, the index and the trailer.
+    // The roll: the pages, the index and the trailer. It opens, and its pages are these.
     #[tactic(auto, using(crate::proofs::Built::the_pages))]
     pub fn finish(self) -> Result<Vec<u8>, AllocError>
         ensures fits { FitsRoll self }
