@@ -210,7 +210,7 @@ fn no_room(rt: HostRuntime) -> Result<(), Fail> {
     let Err(form) = Builder::new(rt.alloc()).with_page(8, b"") else {
         return Err(Fail::new("form 8 was packed"));
     };
-    assert_eq!(rt; form, PackRefusal::UnknownForm);
+    assert_eq!(rt; form, PackRefusal::FormTooHigh);
     let page = vec![in rt.alloc(); 0u8; 1_048_549]?;
     assert!(rt; page.len() == 1_048_549);
     let Err(long) = Builder::new(rt.alloc()).with_page(0, &page) else {
