@@ -22,13 +22,13 @@ use Rattle.conversion.specs.declared.Fault.TheVariants.{Unwritten}
 use Rattle.conversion.specs.Transcribed.{Ends}
 use Rattle.transcript.specs.declared.transcription.Failure.{Failure}
 use Rattle.transcript.specs.declared.transcription.Transcription.{Transcription}
-use Rattle.transcript.specs.Carried.{fault_in, offset_in}
+use Rattle.transcript.specs.Carried.{fault_in, offset_in, Transcribes}
 use Rattle.roll.specs.declared.page.Form.{Form}
 use Rattle.roll.specs.declared.page.Form.TheVariants.{EightBit, SevenBit, SevenBitParity, Latin10}
 use Rattle.roll.specs.declared.page.Form.TheVariants.{Sami, Unicode, Basic}
 use Rattle.forms.specs.FormSets.{form_set}
 use Rattle.forms.specs.PageControls.{page_controls}
-use Rattle.report.specs.Texts.{TextOf, AlwaysWritten}
+use Rattle.report.specs.Texts.{AlwaysWritten}
 
 abbrev InUtf8 : ℕ → Type 0
 InUtf8 c = (v : List ℕ) × (utf8.codings.string c ≡ Some v)
@@ -96,8 +96,9 @@ ends_written m all rest stop h c e =
     none-some _ (sym k.2 ∙ (all (take k.0 rest) c k.1.1).1)
 
 pub always_written : (f : Form) (bytes : List ℕ) (r : Result Transcription Failure)
-    → IfOk r (λ p. TextOf (form_set f) bytes p) → IfOk r (λ p. AlwaysWritten (fault_in p.outcome))
+    → IfOk r (λ p. Transcribes (form_set f) utf8 bytes p)
+    → IfOk r (λ p. AlwaysWritten (fault_in p.outcome))
 always_written f bytes (Ok p) h =
     ends_written (form_set f) (form_written f) (drop (offset_in bytes p.outcome) bytes)
-    (fault_in p.outcome) h.transcript.transcribed.ends
+    (fault_in p.outcome) h.the_transcription.transcribed.ends
 always_written f bytes (Err e) h = tt

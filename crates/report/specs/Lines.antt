@@ -4,6 +4,7 @@ use Rattle.std.specs.Prelude.{Result}
 use Rattle.report.specs.declared.fault.RollFault.{RollFault}
 use Rattle.roll.specs.declared.page.Form.{Form}
 use Rattle.roll.specs.Forms.{form_number}
+use Rattle.report.specs.declared.text.PageText.{PageText}
 use Rattle.report.specs.Told.{fault_told}
 
 -- the number of a page's form; a picture has 0
@@ -11,17 +12,21 @@ abbrev pub form_told : Option Form → ℕ
 form_told None = 0
 form_told (Some f) = form_number f
 
--- page number, form and characters, then ok, or the refusal, @ and the offset
+-- how a page went: ok, or the refusal, @ and the offset
+abbrev pub outcome_told : Result (Unit {0}) RollFault → List ℕ
+outcome_told (Ok u) = codes "ok"
+outcome_told (Err f) =
+    decimal (fault_told f).told.number ++ (codes "@" ++ decimal (fault_told f).told.offset)
+
+-- page number, form and characters, then how the page went
 abbrev pub line_of : (number : ℕ) (form : Option Form) (characters : ℕ)
     → Result (Unit {0}) RollFault → List ℕ
-line_of n form characters (Ok u) =
-    decimal n ++ (codes " " ++ (decimal (form_told form)
-    ++ (codes " " ++ (decimal characters ++ codes " ok"))))
-line_of n form characters (Err f) =
-    decimal n ++ (codes " " ++ (decimal (form_told form)
-    ++ (codes " "
-    ++ (decimal characters
-    ++ (codes " " ++ (decimal (fault_told f).told.number ++ (codes "@" ++ decimal (fault_told f).told.offset)))))))
+line_of n form characters r =
+    decimal n ++ (codes " " ++ (decimal (form_told form) ++ (codes " " ++ (decimal characters
+    ++ (codes " " ++ outcome_told r)))))
+
+abbrev pub line_told : ℕ → PageText → List ℕ
+line_told n t = line_of n t.form t.characters t.outcome
 
 -- the text of a page, its line, and a line feed behind each
 abbrev pub block_of : (text : List ℕ) → (number : ℕ) (form : Option Form) (characters : ℕ)

@@ -34,6 +34,9 @@ PagesWritten b zero out = out ≡ []
 PagesWritten b (suc k) out =
     (front block : List ℕ) × PagesWritten b k front × PageWritten b k block × (out ≡ front ++ block)
 
+abbrev pub AllPagesWritten : List ℕ → List ℕ → Type 0
+AllPagesWritten b out = PagesWritten b (page_count b) out
+
 -- a number alone on a line
 abbrev pub number_line : ℕ → List ℕ
 number_line n = decimal n ++ (0x0a ∷ [])
@@ -51,4 +54,8 @@ OpensInput b (Err f) = (e : RollRefusal) × (f ≡ Refused e) × InputRefused b 
 abbrev pub Reports : List ℕ → List ℕ → Type 0
 Reports b out =
     ((e : RollRefusal) × InputRefused b e × (out ≡ number_line (refusal_told e).number))
-    ⊎ ((length b ≤ LONGEST_INPUT) × Accepted b × PagesWritten b (page_count b) out)
+    ⊎ ((length b ≤ LONGEST_INPUT) × Accepted b × AllPagesWritten b out)
+
+-- no input has two reports
+abbrev pub OneReport : List ℕ → Type 0
+OneReport b = (out out' : List ℕ) → Reports b out → Reports b out' → out ≡ out'

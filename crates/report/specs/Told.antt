@@ -10,4 +10,9 @@ abbrev pub fault_told : RollFault → RollTold
 fault_told (Refused e) =
     record { told = alone (refusal_told e).number; entry = (refusal_told e).entry; page = 0 }
 fault_told (Faulted n f) =
-    record { told = with_fault (fault_number f.fault) 0 f.fault f.offset f.done; entry = 0; page = n }
+    record {
+      told = with_fault (fault_number f.fault) 0 f.fault f.offset f.done;
+      entry = 0;
+      page =
+          n;
+    }

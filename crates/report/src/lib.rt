@@ -2,10 +2,10 @@
 #![tactic(auto)]
 
 ghost use Rattle.std.specs.Prelude.{◌≡◌, IfOk, string_bytes};
-ghost use Rattle.roll.specs.Format.{page_count};
 ghost use Rattle.roll.specs.Rolls.{bytes_of};
-ghost use Rattle.report.specs.Lines.{line_of};
-ghost use Rattle.report.specs.Reports.{PageBlock, PagesWritten, number_line, OpensInput, Reports};
+ghost use Rattle.report.specs.Lines.{line_told};
+ghost use Rattle.report.specs.Reports.{PageBlock, AllPagesWritten, number_line, OpensInput};
+ghost use Rattle.report.specs.Reports.{Reports, OneReport};
 
 mod fault;
 mod text;
@@ -21,7 +21,7 @@ pub const LONGEST_INPUT: usize = 65_536;
 
 // How a page went: its number, form and characters, then `ok`, or the refusal, `@` and the offset.
 pub fn line(heap: Global, number: u32, page: &PageText) -> Result<String, AllocError>
-    ensures { IfOk result (λ s. string_bytes s ≡ line_of number page.now.form page.now.characters page.now.outcome) }
+    ensures { IfOk result (λ s. string_bytes s ≡ line_told number page.now) }
 {
     let form = page.form.map_or(0, u8::from);
     let characters = page.characters;
@@ -63,7 +63,7 @@ fn number_line(heap: Global, number: u8) -> Result<Vec<u8>, AllocError>
 
 // The blocks of all pages.
 fn blocks(heap: Global, roll: &Roll) -> Result<Vec<u8>, AllocError>
-    ensures { IfOk result (λ out. PagesWritten (bytes_of roll.now) (page_count (bytes_of roll.now)) out.items) }
+    ensures { IfOk result (λ out. AllPagesWritten (bytes_of roll.now) out.items) }
 {
     let mut out = Vec::new(heap);
     for (number, page) in roll.pages() {
@@ -84,8 +84,10 @@ fn opened(input: &[u8]) -> Result<Roll<'_>, RollFault>
 }
 
 // What is written of an input.
+#[tactic(auto, using(crate::proofs::OneReport::one_report))]
 pub fn report(heap: Global, input: &[u8]) -> Result<Vec<u8>, AllocError>
-    ensures { IfOk result (λ out. Reports input.now out.items) }
+    ensures reports { IfOk result (λ out. Reports input.now out.items) }
+    ensures one_report { OneReport input.now }
 {
     match opened(input) {
         Ok(roll) => blocks(heap, &roll),

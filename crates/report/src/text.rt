@@ -1,10 +1,11 @@
 // The text of a page, by its form.
 ghost use Rattle.std.specs.Prelude.{◌≡◌, IfOk};
 ghost use Rattle.transcript.specs.Failures.{IsTooLongOrWanting};
-ghost use Rattle.transcript.specs.Carried.{fault_in};
+ghost use Rattle.sets.specs.Utf8.{utf8};
+ghost use Rattle.transcript.specs.Carried.{fault_in, Transcribes};
 ghost use Rattle.forms.specs.FormSets.{form_set};
-ghost use Rattle.report.specs.Texts.{TextOf, AlwaysWritten, on_page, page_form, IsEmptyText};
-ghost use Rattle.report.specs.Texts.{IsPageText};
+ghost use Rattle.report.specs.Texts.{AlwaysWritten, on_page, page_form, IsEmptyText};
+ghost use Rattle.report.specs.Texts.{IsTextOf};
 
 use crate::fault::RollFault;
 use forms::FormSet;
@@ -15,7 +16,7 @@ use transcript::{Failure, FaultAt, Transcription, transcribe};
 
 // Bytes of a form, in UTF-8.
 pub fn form_text(heap: Global, form: Form, bytes: &[u8]) -> Result<Transcription, Failure>
-    ensures text { IfOk result (λ p. TextOf (form_set form) bytes.now p) }
+    ensures text { IfOk result (λ p. Transcribes (form_set form) utf8 bytes.now p) }
     ensures too_long { IsTooLongOrWanting bytes.now result }
     ensures always_written { IfOk result (λ p. AlwaysWritten (fault_in p.outcome)) }
 {
@@ -59,7 +60,7 @@ impl PageText {
 // than a source may be, which no roll can hold, is refused as a roll of that size is.
 pub fn page_text(heap: Global, number: u32, page: &Page) -> Result<PageText, AllocError>
     ensures form { IfOk result (λ t. t.form ≡ page_form page.now) }
-    ensures text { IfOk result (λ t. IsPageText number page.now t.text.items t.characters t.outcome) }
+    ensures text { IfOk result (IsTextOf number page.now) }
 {
     let Page::Text { form, part, .. } = *page else {
         return Ok(PageText::empty(heap, None, Ok(())));

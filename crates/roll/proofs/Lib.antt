@@ -3,3 +3,4 @@ pub mod Inside
 pub mod Built
 pub mod Packed
 pub mod OneAnswer
+pub mod FormNumbers
