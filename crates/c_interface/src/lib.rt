@@ -76,7 +76,7 @@ pub extern "C" fn finetalc_start(transcript: &mut TranscriptRecord, answer: &mut
 // Reads the held bytes and then the sector from the front, and writes each character behind the one
 // before.
 #[unsafe(no_mangle)]
-#[tactic(auto, using(crate::proofs::Whole::the_law))]
+#[tactic(auto, using(transcript::proofs::Whole::the_law))]
 pub extern "C" fn finetalc_offer(
     heap: Global,
     transcript: &mut TranscriptRecord,
