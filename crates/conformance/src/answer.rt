@@ -24,7 +24,9 @@ impl From<Result<Reading, SetRefusal>> for ConverterAnswer {
 
     fn from(reading: Result<Reading, SetRefusal>) -> ConverterAnswer {
         match reading {
-            Ok(Reading::Found { character, length }) => ConverterAnswer::Character(character, length),
+            Ok(Reading::Found { character, length }) => ConverterAnswer::Character(
+                character, length,
+            ),
             Ok(Reading::Open) => ConverterAnswer::Open,
             Err(refusal) => ConverterAnswer::Refused(refusal.cause),
         }
@@ -78,7 +80,10 @@ impl fmt::Display for ConverterAnswer {
     #[tactic(auto, using(crate::proofs::Texts::padded_is_hex_of))]
     fn fmt<W: fmt::Write>(&self, f: &mut fmt::Formatter<W>) -> fmt::Result {
         match self {
-            ConverterAnswer::Character(character, length) => write!(f, "U+{character:04X} of {length}"),
+            ConverterAnswer::Character(character, length) => write!(
+                f,
+                "U+{character:04X} of {length}"
+            ),
             ConverterAnswer::Open => write!(f, "open"),
             ConverterAnswer::Refused(cause) => write!(f, "refused {cause}"),
             ConverterAnswer::Bytes(number, length) => {

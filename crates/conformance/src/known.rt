@@ -68,8 +68,12 @@ pub(crate) fn in_6937(theirs: ConverterAnswer, ours: ConverterAnswer) -> Option<
     ensures { ApartIn6937 theirs ours result }
 {
     match (theirs, ours) {
-        (ConverterAnswer::Character(0x2014, 1), ConverterAnswer::Character(0x2015, 1)) => Some(Known::Bar),
-        (ConverterAnswer::Character(0xD0, 1), ConverterAnswer::Character(0x110, 1)) => Some(Known::Stroke),
+        (ConverterAnswer::Character(0x2014, 1), ConverterAnswer::Character(0x2015, 1)) => Some(
+            Known::Bar,
+        ),
+        (ConverterAnswer::Character(0xD0, 1), ConverterAnswer::Character(0x110, 1)) => Some(
+            Known::Stroke,
+        ),
         (ConverterAnswer::Refused(_), ConverterAnswer::Character(0x123, 2)) => Some(Known::SmallG),
         (ConverterAnswer::Character(0x123, 2), ConverterAnswer::Refused(32)) => Some(Known::SmallG),
         _ => None,

@@ -1,3 +1,2 @@
-
 pub mod ShownSets
 pub mod ShownTranscripts

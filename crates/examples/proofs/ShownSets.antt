@@ -9,13 +9,14 @@ use Rattle.sets.specs.declared.cause.Cause.TheVariants.{NotInUse, NoPair}
 use Rattle.sets.specs.Causes.{refusal}
 use Rattle.sets.specs.Search.{first_from}
 use Rattle.sets.specs.Iso6937Table.{supplementary, diacritics}
-use Rattle.sets.specs.Iso6937Laws.{iso6937_laws}
-use Rattle.sets.specs.Utf8Laws.{utf8_laws}
+use Rattle.sets.specs.Laws.Iso6937.{iso6937_laws}
+use Rattle.sets.specs.Laws.Utf8.{utf8_laws}
 use Rattle.layers.specs.Depth.{own, up}
 use Rattle.layers.specs.Laws.LayersKeep.{shift_laws, parity_laws}
 use Rattle.examples.specs.SetsAndLayers.{WorkedExamples}
 
-pub by_reading : {m : Meaning} → Laws m → (s : List ℕ) (r : ReadAnswer) → reading m s ≡ r → Reads m s r
+pub by_reading : {m : Meaning} → Laws m → (s : List ℕ) (r : ReadAnswer) → reading m s ≡ r
+    → Reads m s r
 by_reading l s r e = rw (← e) (reading_reads l s)
 
 pub worked_examples : WorkedExamples

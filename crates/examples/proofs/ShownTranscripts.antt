@@ -7,7 +7,7 @@ use Rattle.charset.specs.Decoding.{Spells}
 use Rattle.sets.specs.Search.{first_from}
 use Rattle.sets.specs.Iso6937Table.{supplementary, diacritics}
 use Rattle.sets.specs.Iso6937.{iso6937}
-use Rattle.sets.specs.Iso6937Laws.{iso6937_laws}
+use Rattle.sets.specs.Laws.Iso6937.{iso6937_laws}
 use Rattle.sets.specs.SingleByte.{single_byte}
 use Rattle.sets.specs.SingleByteTables.{iso8859_16}
 use Rattle.conversion.specs.declared.Fault.TheVariants.{Unwritten}
@@ -78,8 +78,7 @@ cedilla_offered : Use iso6937 latin
     (record {
       state = state.Faulted (fault_at (Unwritten 0x15f) 1 1 1);
       taken = 1;
-      characters =
-          1;
+      characters = 1;
       written = 1;
       held = [];
     })
@@ -100,6 +99,8 @@ cedilla_offered = call made (record {
 
 pub worked_examples : WorkedExamples
 worked_examples = record {
+  transcript_limits = (refl, refl, refl);
+  roll_limits = (refl, refl, refl, refl);
   of_sets_and_layers = of_sets_and_layers;
   acute_held = acute_offered;
   letter_next = letter_offered;

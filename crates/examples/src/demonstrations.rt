@@ -26,7 +26,8 @@ pub fn read_three_deep<S: CharacterSet + Drop>(
     below: S,
     bytes: &[u8],
 ) -> Result<Reading, SetRefusal>
-    ensures { ReadByLaws (parity (shift (controls chosen (set_of S.CharacterSet below)))) bytes.now result }
+    ensures { ReadByLaws (parity (shift (controls chosen (set_of S.CharacterSet below))))
+        bytes.now result }
 {
     let stack = with_parity(with_shift(with_controls(chosen, below)));
     read_front(&stack, bytes)

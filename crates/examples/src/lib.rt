@@ -24,5 +24,4 @@ pub use demonstrations::{read_three_deep, read_with_parity};
 #[tactic(auto, using(crate::proofs::ShownTranscripts::worked_examples))]
 pub fn worked_examples()
     ensures { WorkedExamples }
-{
-}
+{}

@@ -27,7 +27,7 @@ fn shows(
 }
 
 // The answer where a roll is refused; a roll that is not has no such answer.
-fn refused(input: &[u8]) -> Option<RollFault> {
+fn refused(input: &[u8]) -> Option<RollRefusal> {
     Roll::open(input).err()
 }
 
@@ -76,8 +76,8 @@ fn eight_forms(rt: HostRuntime) -> Result<(), Fail> {
         .with_page(4, b"\xE9")?;
     let builder = builder.with_page(5, b"\xE9")?.with_page(6, b"\xC3\xA9")?;
     let roll = builder.with_page(7, b"e")?.finish()?;
-    let expected =
-        b"\n1 0 0 ok\n\xC3\xA9\n2 1 1 ok\n\xC3\xA9\n3 2 1 ok\n\xC3\xA9\n4 3 1 ok\n\xC3\xA9\n5 4 1 ok\n\xC3\xA9\n6 5 1 ok\n\xC3\xA9\n7 6 1 ok\ne\n8 7 1 ok\n";
+    let expected = b"\n1 0 0 ok\n\xC3\xA9\n2 1 1 ok\n\xC3\xA9\n3 2 1 ok\n\xC3\xA9\n4 3 1 ok\n\
+          \xC3\xA9\n5 4 1 ok\n\xC3\xA9\n6 5 1 ok\n\xC3\xA9\n7 6 1 ok\ne\n8 7 1 ok\n";
     writes(&rt, &roll, expected)
 }
 
@@ -96,7 +96,7 @@ fn longest_and_last(rt: HostRuntime) -> Result<(), Fail> {
     assert!(rt; two.len() == 42);
     assert_eq!(rt; refused(&two), None);
     two[21] = 2;
-    assert_eq!(rt; refused(&two), Some(RollFault::BadEntry(2)));
+    assert_eq!(rt; refused(&two), Some(RollRefusal::BadEntry(2)));
     Ok(())
 }
 
@@ -110,17 +110,17 @@ fn no_pages_and_empty_pages(rt: HostRuntime) -> Result<(), Fail> {
 fn sizes_and_mark(rt: HostRuntime) -> Result<(), Fail> {
     assert_eq!(rt;
         refused(b"\0\0\0\0\0\0\0\0\0\0\0ROLL"),
-        Some(RollFault::WrongSize)
+        Some(RollRefusal::WrongSize)
     );
     assert_eq!(rt; refused(b"\0\0\0\0\0\0\0\0\0\0\0\0ROLL"), None);
     assert_eq!(rt;
         refused(b"\0\0\0\0\0\0\0\0\0\0\0\0ROLK"),
-        Some(RollFault::NoMark)
+        Some(RollRefusal::NoMark)
     );
     let long = vec![in rt.alloc(); 0u8; 1_048_577]?;
     assert!(rt; long.len() == 1_048_577);
-    assert_eq!(rt; refused(&long), Some(RollFault::WrongSize));
-    assert_eq!(rt; refused(&long[1..]), Some(RollFault::NoMark));
+    assert_eq!(rt; refused(&long), Some(RollRefusal::WrongSize));
+    assert_eq!(rt; refused(&long[1..]), Some(RollRefusal::NoMark));
     writes(&rt, &long[0..65_536], b"15\n")?;
     writes(&rt, &long[0..65_537], b"14\n")
 }
@@ -130,15 +130,15 @@ fn index_and_entries(rt: HostRuntime) -> Result<(), Fail> {
     // An index offset that does not fit, and none where there are no pages.
     assert_eq!(rt;
         refused(b"\0\0\0\x01\0\0\0\0\0\0\0\0ROLL"),
-        Some(RollFault::WrongIndex)
+        Some(RollRefusal::WrongIndex)
     );
     assert_eq!(rt;
         refused(b"a\0\0\0\x01\0\0\0\0\0\0\0\0ROLL"),
-        Some(RollFault::BadEntry(0))
+        Some(RollRefusal::BadEntry(0))
     );
     assert_eq!(rt;
         refused(b"\0\0\0\0\0\0\0\0\0\0\0\x01ROLL"),
-        Some(RollFault::WrongTotal)
+        Some(RollRefusal::WrongTotal)
     );
     // One page: `a`, then its entry, then the trailer.
     assert_eq!(rt;
@@ -147,23 +147,23 @@ fn index_and_entries(rt: HostRuntime) -> Result<(), Fail> {
     );
     assert_eq!(rt;
         refused(b"a\0\0\0\x01\0\0\0\x01\x01\0\0\0\0\0\0\x01\0\0\0\x01\0\0\0\x01ROLL"),
-        Some(RollFault::BadEntry(1))
+        Some(RollRefusal::BadEntry(1))
     );
     assert_eq!(rt;
         refused(b"a\0\0\0\0\0\0\0\x02\x01\0\0\0\0\0\0\x01\0\0\0\x01\0\0\0\x01ROLL"),
-        Some(RollFault::BadEntry(1))
+        Some(RollRefusal::BadEntry(1))
     );
     assert_eq!(rt;
         refused(b"a\0\0\0\0\0\0\0\x01\x08\0\0\0\0\0\0\x01\0\0\0\x01\0\0\0\x01ROLL"),
-        Some(RollFault::BadEntry(1))
+        Some(RollRefusal::BadEntry(1))
     );
     assert_eq!(rt;
         refused(b"a\0\0\0\0\0\0\0\x01\x01\0\0\x01\0\0\0\x01\0\0\0\x01\0\0\0\x01ROLL"),
-        Some(RollFault::BadEntry(1))
+        Some(RollRefusal::BadEntry(1))
     );
     assert_eq!(rt;
         refused(b"a\0\0\0\0\0\0\0\x01\x01\0\0\0\0\0\0\x01\0\0\0\x01\0\0\0\x02ROLL"),
-        Some(RollFault::WrongTotal)
+        Some(RollRefusal::WrongTotal)
     );
     writes(
         &rt,
@@ -200,7 +200,7 @@ fn most_pages(rt: HostRuntime) -> Result<(), Fail> {
     more[12_306] = 4;
     more[12_307] = 1;
     more[12_312..].copy_from_slice(b"ROLL");
-    assert_eq!(rt; refused(&more), Some(RollFault::WrongIndex));
+    assert_eq!(rt; refused(&more), Some(RollRefusal::WrongIndex));
     Ok(())
 }
 

@@ -1,6 +1,6 @@
 // Stacks by their type alone.
+use crate::{read_three_deep, read_with_parity};
 use charset::{Reading, SetRefusal};
-use crate::demonstrations::{read_three_deep, read_with_parity};
 use sets::Iso6937;
 use std::test::*;
 

@@ -1,8 +1,8 @@
 -- The set of a form keeps the laws.
 use Rattle.charset.specs.Meaning.{Laws}
-use Rattle.sets.specs.Iso6937Laws.{iso6937_laws}
-use Rattle.sets.specs.SingleByteLaws.{single_byte_laws}
-use Rattle.sets.specs.Utf8Laws.{utf8_laws}
+use Rattle.sets.specs.Laws.Iso6937.{iso6937_laws}
+use Rattle.sets.specs.Laws.SingleByte.{single_byte_laws}
+use Rattle.sets.specs.Laws.Utf8.{utf8_laws}
 use Rattle.layers.specs.Laws.LayersKeep.{shift_laws, parity_laws, sub_laws, controls_laws}
 use Rattle.forms.specs.declared.FormSet.{FormSet}
 use Rattle.forms.specs.declared.FormSet.TheVariants.{EightBit, SevenBit, SevenBitParity}

@@ -19,8 +19,12 @@ use std::alloc::{AllocError, Global};
 // The controls of a page: 09, 0A, 0C and 0D.
 #[rattlefmt::skip]
 pub const PAGE_CONTROLS: [bool; 32] = [
-    false, false, false, false, false, false, false, false, false, true, true, false, true, true, false, false,
-    false, false, false, false, false, false, false, false, false, false, false, false, false, false, false, false,
+    // 00 to 0F
+    false, false, false, false, false, false, false, false,
+    false, true, true, false, true, true, false, false,
+    // 10 to 1F
+    false, false, false, false, false, false, false, false,
+    false, false, false, false, false, false, false, false,
 ];
 
 // One case for each type of stack: those of ISO/IEC 8859-16 and of the Sami set are of one type.

@@ -7,9 +7,9 @@ use sets::Iso6937;
 use std::{fmt, io};
 
 #[derive(Clone, Copy, PartialEq)]
-struct Answer(Result<Reading, SetRefusal>);
+struct ShownReading(Result<Reading, SetRefusal>);
 
-impl fmt::Display for Answer {
+impl fmt::Display for ShownReading {
     fn fmt<W: fmt::Write>(&self, f: &mut fmt::Formatter<W>) -> fmt::Result {
         match self.0 {
             Ok(Reading::Found { character, length }) => write!(f, "U+{character:04X} {length}"),
@@ -32,13 +32,13 @@ impl fmt::Display for Bytes {
 }
 
 fn read_one(rt: &HostRuntime, byte: u8) -> io::Result<()> {
-    let answer = Answer(Iso6937.read(&[byte]));
+    let answer = ShownReading(Iso6937.read(&[byte]));
     println!(rt; "{byte:02X} {answer}")
 }
 
 fn read_two(rt: &HostRuntime, first: u8) -> io::Result<()> {
     let answers = (0..=255u8)
-        .map(|second| (second, Answer(Iso6937.read(&[first, second]))))
+        .map(|second| (second, ShownReading(Iso6937.read(&[first, second]))))
         .collect::<Vec<_>>(rt.alloc())?;
     for run in answers.chunk_by(|a, b| a.1 == b.1) {
         let (from, answer) = run[0];

@@ -7,11 +7,11 @@ use Rattle.sets.specs.Iso6937.{iso6937}
 use Rattle.sets.specs.SingleByte.{single_byte}
 use Rattle.sets.specs.SingleByteTables.{iso8859_16, sami}
 use Rattle.sets.specs.Utf8.{utf8}
-use Rattle.sets.specs.CodeTable.{all_low, low_at}
-use Rattle.sets.specs.Iso6937Laws.{iso6937_laws, low_character}
-use Rattle.sets.specs.SingleByteLaws.{single_byte_laws}
+use Rattle.sets.specs.Laws.Columns.{all_low, low_at}
+use Rattle.sets.specs.Laws.Iso6937.{iso6937_laws, low_character}
+use Rattle.sets.specs.Laws.SingleByte.{single_byte_laws}
 use Rattle.sets.proofs.SingleByteTables.{iso8859_16_once, sami_once}
-use Rattle.sets.specs.Utf8Laws.{utf8_laws, low_written}
+use Rattle.sets.specs.Laws.Utf8.{utf8_laws, low_written}
 use Rattle.layers.specs.CharacterList.{required}
 use Rattle.layers.specs.Layers.{parity, shift, sub, controls}
 use Rattle.layers.specs.Laws.LayersKeep.{shift_laws, sub_laws, controls_laws}

@@ -2,8 +2,9 @@
 use Rattle.std.proofs.Common.{◌≡◌, ℕ, zero, suc, ◌+◌, ◌<◌, ◌≤◌, true, false, eqb, leb, List, ◌++◌}
 use Rattle.std.proofs.Common.{take, sym, refl, ap, ◌∙◌, subst, inl, inr, add-one, arith, take-add}
 use Rattle.std.proofs.lemmas.Bool.{cases_lt, and_parts, eqb-true, eq-eqb, cond-true}
+use Rattle.roll.specs.declared.TheConstants.{LAST_FORM}
 use Rattle.roll.specs.Format.{index_offset, page_count, offset, size, form, padded, starts}
-use Rattle.roll.specs.Format.{entry_holds, sizes, NoPagesNoBytes, Entries, page_bytes, joined}
+use Rattle.roll.specs.Format.{entry_holds, sizes, NoPagesNoBytes, EntriesHold, page_bytes, joined}
 use Rattle.roll.specs.Opened.{FirstBad}
 
 -- what an entry that keeps the rules says
@@ -13,7 +14,7 @@ holds_start b k h = eqb-true _ _ (and_parts _ _ h).0
 pub holds_last : (b : List ℕ) (k : ℕ) → entry_holds b k ≡ true → k + 1 ≡ page_count b
     → offset b k + size b k ≡ index_offset b
 holds_last b k h e =
-    let l = (and_parts (padded b k) _ (and_parts (leb (form b k) 7) _
+    let l = (and_parts (padded b k) _ (and_parts (leb (form b k) LAST_FORM) _
     (and_parts (eqb (offset b k) (starts b k)) _ h).1).1).1 in
     eqb-true _ _ (sym (cond-true (eqb (k + 1) (page_count b)) _ true (eq-eqb _ _ e)) ∙ l)
 
@@ -41,7 +42,7 @@ pub starts_last : (b : List ℕ) (n : ℕ) → n ≡ page_count b → NoPagesNoB
 starts_last b zero e none h = sym (none (sym e))
 starts_last b (suc n) e none h = holds_last b n (h n (omega arith)) (add-one n ∙ e)
 
-pub covers : (b : List ℕ) → NoPagesNoBytes b → Entries b
+pub covers : (b : List ℕ) → NoPagesNoBytes b → EntriesHold b
     → joined b (page_count b) ≡ take (index_offset b) b
 covers b none h =
     joined_take b (page_count b) h ∙ ap (λ z. take z b) (starts_last b (page_count b) refl none h)
@@ -53,9 +54,9 @@ first_bad b k l h e = subst (FirstBad b) (sym (add-one k)) (omega arith, h, e)
 
 -- the end of the index
 pub sums : (b : List ℕ) (k end : ℕ) → k ≡ page_count b → end ≡ starts b k → HoldBelow b k
-    → Entries b × (end ≡ sizes b (page_count b))
+    → EntriesHold b × (end ≡ sizes b (page_count b))
 sums b k end n e h =
-    let all : Entries b = subst (HoldBelow b) n h in
+    let all : EntriesHold b = subst (HoldBelow b) n h in
     (all, e ∙ (ap (starts b) n ∙ starts_sizes b (page_count b) all))
 
 -- a page ends before the index
@@ -72,7 +73,7 @@ ends_below b (suc n) k h l =
           omega arith in subst (λ z. starts b (suc z) ≤ starts b (suc n)) (sym e) (omega arith)
     ]
 
-pub ends_inside : (b : List ℕ) (k : ℕ) → NoPagesNoBytes b → Entries b → k < page_count b
+pub ends_inside : (b : List ℕ) (k : ℕ) → NoPagesNoBytes b → EntriesHold b → k < page_count b
     → offset b k + size b k ≤ index_offset b
 ends_inside b k none h l =
     omega (arith, ends_below b (page_count b) k h l, starts_last b (page_count b) refl none h)

@@ -1,3 +1,5 @@
 pub mod Chain
 pub mod Inside
 pub mod Built
+pub mod Packed
+pub mod OneAnswer

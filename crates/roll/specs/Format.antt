@@ -1,6 +1,9 @@
 -- The format of a roll: pages, then an index, then a trailer of sixteen bytes.
 use Rattle.std.specs.Prelude.{◌≡◌, ℕ, zero, suc, ◌+◌, ◌-◌, ◌*◌, ◌<◌, ◌≤◌, Bool, true, cond, ◌&&◌}
 use Rattle.std.specs.Prelude.{List, [], ◌++◌, length, take, drop, ◌==◌, nat_le, slice_index}
+use Rattle.roll.specs.declared.TheConstants.{SMALLEST_ROLL, LARGEST_ROLL, MOST_PAGES, ENTRY_BYTES}
+use Rattle.roll.specs.declared.TheConstants.{TRAILER_BYTES, LAST_FORM}
+use Rattle.roll.specs.declared.roll.TheConstants.{MARK}
 
 -- a number of four bytes, the highest first
 abbrev pub word : List ℕ → ℕ → ℕ
@@ -11,7 +14,7 @@ word b i =
 -- the trailer: where the index begins, how many pages there are, the total of their lengths, and a
 -- mark
 abbrev pub index_offset : List ℕ → ℕ
-index_offset b = word b (length b - 16)
+index_offset b = word b (length b - TRAILER_BYTES)
 
 abbrev pub page_count : List ℕ → ℕ
 page_count b = word b (length b - 12)
@@ -25,7 +28,7 @@ mark b = word b (length b - 4)
 -- an entry of the index, by its place from 0, has twelve bytes: offset, length, form, and three
 -- bytes 00
 abbrev pub entry : List ℕ → ℕ → ℕ
-entry b k = index_offset b + 12 * k
+entry b k = index_offset b + ENTRY_BYTES * k
 
 abbrev pub offset : List ℕ → ℕ → ℕ
 offset b k = word b (entry b k)
@@ -51,7 +54,8 @@ abbrev pub last_ends : List ℕ → ℕ → Bool
 last_ends b k = cond (k + 1 == page_count b) (offset b k + size b k == index_offset b) true
 
 abbrev pub entry_holds : List ℕ → ℕ → Bool
-entry_holds b k = offset b k == starts b k && (nat_le (form b k) 7 && (padded b k && last_ends b k))
+entry_holds b k =
+    offset b k == starts b k && (nat_le (form b k) LAST_FORM && (padded b k && last_ends b k))
 
 -- the lengths of the first pages together
 abbrev pub sizes : List ℕ → ℕ → ℕ
@@ -60,19 +64,21 @@ sizes b (suc k) = sizes b k + size b k
 
 -- the rules, in their order
 abbrev pub Sized : List ℕ → Type 0
-Sized b = (16 ≤ length b) × (length b ≤ 1048576)
+Sized b = (SMALLEST_ROLL ≤ length b) × (length b ≤ LARGEST_ROLL)
 
 abbrev pub Marked : List ℕ → Type 0
-Marked b = mark b ≡ 0x524f4c4c
+Marked b = mark b ≡ MARK
 
 abbrev pub Indexed : List ℕ → Type 0
-Indexed b = (page_count b ≤ 1024) × (index_offset b + 12 * page_count b + 16 ≡ length b)
+Indexed b =
+    (page_count b ≤ MOST_PAGES)
+    × (index_offset b + ENTRY_BYTES * page_count b + TRAILER_BYTES ≡ length b)
 
 abbrev pub NoPagesNoBytes : List ℕ → Type 0
 NoPagesNoBytes b = page_count b ≡ 0 → index_offset b ≡ 0
 
-abbrev pub Entries : List ℕ → Type 0
-Entries b = (k : ℕ) → k < page_count b → entry_holds b k ≡ true
+abbrev pub EntriesHold : List ℕ → Type 0
+EntriesHold b = (k : ℕ) → k < page_count b → entry_holds b k ≡ true
 
 abbrev pub Totalled : List ℕ → Type 0
 Totalled b = total b ≡ sizes b (page_count b)

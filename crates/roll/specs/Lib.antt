@@ -9,3 +9,4 @@ pub mod EachPage
 pub mod Built
 pub mod Messages
 pub mod Packed
+pub mod RollOf

@@ -1,5 +1,4 @@
 -- The number that each refusal of a roll is told by, and the value that comes with it.
-use Rattle.std.specs.Prelude.{ℕ}
 use Rattle.roll.specs.declared.refusal.RollRefusal.{RollRefusal}
 use Rattle.roll.specs.declared.refusal.RollRefusal.TheVariants.{WrongSize, NoMark, WrongIndex}
 use Rattle.roll.specs.declared.refusal.RollRefusal.TheVariants.{BadEntry, WrongTotal, NoSuchPage}

@@ -36,7 +36,8 @@ impl Model for Builder {
 }
 
 impl Builder {
-    ghost use Rattle.roll.specs.Packed.{PackedPage, used_by, packed, RoomFor, FitsRoll};
+    ghost use Rattle.roll.specs.Packed.{PackedPage, page_of, used_by, packed, RoomFor, FitsRoll};
+    ghost use Rattle.roll.specs.RollOf.{IsRollOf};
 
     // No pages yet.
     pub fn new(heap: Global) -> Builder
@@ -57,8 +58,8 @@ impl Builder {
 
     // The bytes of the roll as it stands.
     #[tactic(auto, using(crate::proofs::Built::the_pages))]
-    fn size(&self) -> usize
-        ensures size { result ≡ used_by self.now + 16 }
+    fn roll_size(&self) -> usize
+        ensures size { result ≡ used_by self.now + TRAILER_BYTES }
         ensures fits { FitsRoll self.now }
     {
         self.bytes.len() + ENTRY_BYTES * self.entries.len() + TRAILER_BYTES
@@ -70,16 +71,16 @@ impl Builder {
     pub fn with_page(self, form: u8, page: &[u8]) -> Result<Builder, PackRefusal>
         ensures fits { FitsRoll self }
         ensures room { RoomFor form (length self) (used_by self) (length page.now) result }
-        ensures added { IfOk result (λ b. b ≡ self ++ record { form = form; bytes = page.now } ∷ []) }
+        ensures added { IfOk result (λ b. b ≡ self ++ page_of form page.now ∷ []) }
     {
-        let size = self.size() + ENTRY_BYTES + page.len();
+        let roll_size = self.roll_size() + ENTRY_BYTES + page.len();
         if form > LAST_FORM {
-            return Err(PackRefusal::UnknownForm);
+            return Err(PackRefusal::FormTooHigh);
         }
         if self.page_count() >= MOST_PAGES {
             return Err(PackRefusal::TooManyPages);
         }
-        if size > LARGEST_ROLL {
+        if roll_size > LARGEST_ROLL {
             return Err(PackRefusal::TooLong);
         }
         let Builder {
@@ -94,11 +95,12 @@ impl Builder {
         Ok(Builder { bytes, entries })
     }
 
-    // The roll: the pages, the index and the trailer.
+    // The roll: the pages, the index and the trailer. It opens, and its pages are these.
     #[tactic(auto, using(crate::proofs::Built::the_pages))]
     pub fn finish(self) -> Result<Vec<u8>, AllocError>
         ensures fits { FitsRoll self }
         ensures roll { IfOk result (λ roll. roll.items ≡ packed self) }
+        ensures opens { IfOk result (λ roll. IsRollOf self roll.items) }
     {
         let Builder { bytes, entries } = self;
         let total = bytes.len() as u32;
@@ -111,7 +113,7 @@ impl Builder {
 
 // The index, an entry to a page. A loop with `?`: as a fold over the offset it is no shorter.
 fn write_index(roll: &mut Vec<u8>, entries: &[NewEntry]) -> Result<(), AllocError>
-    requires { sum_by (λ e. e.size) entries.now ≤ 1048576 }
+    requires { sum_by (λ e. e.size) entries.now ≤ LARGEST_ROLL }
     ensures { OnOk result (roll.new.items ≡ roll.old.items ++ index_of 0 entries.now) }
 {
     let mut offset = 0u32;

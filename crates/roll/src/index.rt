@@ -13,7 +13,7 @@ pub(crate) fn word_at(bytes: &[u8], at: usize) -> u32
     u32::from_be_bytes([bytes[at], bytes[at + 1], bytes[at + 2], bytes[at + 3]])
 }
 
-// What an entry tells, whether it keeps the rules or not: where its page begins and ends, its form,
+// What an entry says, whether it keeps the rules or not: where its page begins and ends, its form,
 // whatever number that is, and whether the three bytes behind are 00.
 #[derive(Clone, Copy)]
 pub(crate) struct Entry {

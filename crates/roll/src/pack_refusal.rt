@@ -9,7 +9,7 @@ use std::fmt;
 #[derive(Clone, Copy, PartialEq, Eq, Debug)]
 pub enum PackRefusal {
     // The form is above 7.
-    UnknownForm,
+    FormTooHigh,
     // There are 1,024 pages already.
     TooManyPages,
     // The roll would have more than 1,048,576 bytes.
@@ -22,7 +22,7 @@ impl fmt::Display for PackRefusal {
 
     fn fmt<W: fmt::Write>(&self, f: &mut fmt::Formatter<W>) -> fmt::Result {
         match self {
-            PackRefusal::UnknownForm => f.write_str("a form is a number from 0 to 7"),
+            PackRefusal::FormTooHigh => f.write_str("a form is a number from 0 to 7"),
             PackRefusal::TooManyPages => f.write_str("a roll has at most 1024 pages"),
             PackRefusal::TooLong => f.write_str("a roll has at most 1048576 bytes"),
             PackRefusal::NoMemory => f.write_str("out of memory"),

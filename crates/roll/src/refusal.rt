@@ -11,8 +11,8 @@ pub enum RollRefusal {
     NoMark,
     // More than 1,024 pages, or the index does not end just where the trailer begins.
     WrongIndex,
-    // The first entry, from 1, that breaks a rule; 0 where there are no pages and the index does not
-    // begin at 0.
+    // The first entry, from 1, that breaks a rule; 0 where there are no pages and the index does
+    // not begin at 0.
     BadEntry(u32),
     // The total is not the sum of the lengths.
     WrongTotal,

@@ -1,7 +1,7 @@
 // A roll, opened.
-ghost use Rattle.std.specs.Prelude.{◌≡◌, MatchResult};
+ghost use Rattle.std.specs.Prelude.{◌≡◌, IfOk, IfErr};
 ghost use Rattle.roll.specs.Format.{page_count};
-ghost use Rattle.roll.specs.Opened.{Accepted, Refuses};
+ghost use Rattle.roll.specs.Opened.{Accepted, Refuses, OneAnswer};
 ghost use Rattle.std.proofs.Props.{props};
 
 use crate::each_page::Pages;
@@ -26,8 +26,11 @@ impl<'a> Roll<'a> {
     ghost use Rattle.roll.specs.EachPage.{source};
 
     // Checks every rule, in the order of their numbers.
+    #[tactic(auto, using(crate::proofs::OneAnswer::one_answer))]
     pub fn open(bytes: &'a [u8]) -> Result<Roll<'a>, RollRefusal>
-        ensures { MatchResult result (λ roll. (bytes_of roll ≡ bytes.now) × Accepted bytes.now) (λ e. Refuses bytes.now e) }
+        ensures opened { IfOk result (λ roll. (bytes_of roll ≡ bytes.now) × Accepted bytes.now) }
+        ensures refused { IfErr result (Refuses bytes.now) }
+        ensures one_answer { OneAnswer bytes.now }
     {
         let len = bytes.len();
         if len < SMALLEST_ROLL || len > LARGEST_ROLL {

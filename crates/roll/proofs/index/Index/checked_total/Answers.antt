@@ -1,4 +1,4 @@
-use Rattle.std.proofs.Common.{◌≡◌, below_more, arith}
+use Rattle.std.proofs.Common.{◌≡◌, ◌+◌, refl, below_more, arith}
 use Rattle.std.proofs.lemmas.Result.{err_from_is_err_and}
 use Rattle.roll.specs.Format.{page_count}
 use Rattle.roll.proofs.Chain.{first_bad, sums}
@@ -10,7 +10,7 @@ returns-in_err-end c =
     let b = c.args.self.now.bytes.now in
     let e = c.in_err-end.ensures in
     let p = err_from_is_err_and c.from_residual.result c.from_residual.ensures.1 in
-    rw (p.1, p.2, e.1) (first_bad b l.place (omega arith) l.invariant.1 e.0)
+    rw (p.1, p.2, e.1) (l.place + 1, refl, first_bad b l.place (omega arith) l.invariant.1 e.0)
 
 pub loop-place-preserved : goal.loop-place-preserved
 loop-place-preserved c =
