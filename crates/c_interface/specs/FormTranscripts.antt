@@ -11,8 +11,8 @@ use Rattle.c_interface.specs.declared.record.TranscriptRecord.{TranscriptRecord}
 use Rattle.c_interface.specs.Records.{Keeps}
 
 -- the record keeps it
-abbrev pub KeptIn : TranscriptRecord → FormTranscript → Type 0
-KeptIn r k = Keeps r k.source k.target (snapshot k.progress)
+abbrev pub KeepsTranscript : TranscriptRecord → FormTranscript → Type 0
+KeepsTranscript r k = Keeps r k.source k.target (snapshot k.progress)
 
 -- the transcript is between the sets of its forms, and has come as far
 pub record ResumesAs {g h : Ghosts FormSet} (k : FormTranscript)

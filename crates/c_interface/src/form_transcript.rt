@@ -29,11 +29,11 @@ fn places(front: Front) -> [u8; 4]
 impl FormTranscript {
     ghost use Rattle.std.specs.Prelude.{MatchOption, IfOk, OnErr};
     ghost use Rattle.c_interface.specs.Records.{NoTranscript, WantsMemory};
-    ghost use Rattle.c_interface.specs.FormTranscripts.{KeptIn, ResumesAs};
+    ghost use Rattle.c_interface.specs.FormTranscripts.{KeepsTranscript, ResumesAs};
 
     // The transcript that a record keeps.
     pub(crate) fn of(kept: &TranscriptRecord) -> Option<FormTranscript>
-        ensures { MatchOption result (NoTranscript kept.now) (KeptIn kept.now) }
+        ensures { MatchOption result (NoTranscript kept.now) (KeepsTranscript kept.now) }
     {
         let source = Form::try_from(kept.source).ok()?;
         let target = Form::try_from(kept.target).ok()?;
@@ -49,7 +49,7 @@ impl FormTranscript {
 
     // The record that keeps it.
     pub(crate) fn record(&self) -> TranscriptRecord
-        ensures { KeptIn result self.now }
+        ensures { KeepsTranscript result self.now }
     {
         TranscriptRecord {
             status: StatusRecord::from(self.progress.status()),
