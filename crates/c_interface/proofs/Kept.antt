@@ -65,8 +65,7 @@ module _ (r : TranscriptRecord) (f g : Form) (p : Progress) (u : Status) (h : Li
           taken = u.taken;
           characters = u.characters;
           written = u.written;
-          held =
-              q i;
+          held = q i;
           state = u.state;
         }
 
@@ -78,16 +77,14 @@ module _ (r : TranscriptRecord) (f g : Form) (p : Progress) (u : Status) (h : Li
           (λ i. record {
             status = (e ∙ ap status_record same_status) i;
             source = a i;
-            target =
-                b i;
+            target = b i;
             bytes = sym w i;
           });
       counts =
           record {
             read_least = p.read_least;
             read_most = p.read_most;
-            written_least =
-                p.written_least;
+            written_least = p.written_least;
             written_most = p.written_most;
             limit = p.limited;
           };

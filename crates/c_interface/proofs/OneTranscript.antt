@@ -15,7 +15,7 @@ use Rattle.roll.specs.declared.page.Form.TheVariants.{Sami, Unicode, Basic}
 use Rattle.roll.specs.Forms.{form_number}
 use Rattle.transcript.specs.Calls.{Snapshot}
 use Rattle.c_interface.specs.declared.record.TranscriptRecord.{TranscriptRecord}
-use Rattle.c_interface.specs.Records.{fault_told, state_number, standing, Keeps, OneTranscript}
+use Rattle.c_interface.specs.Records.{fault_record, state_number, state_fault, Keeps, OneTranscript}
 
 form_of : ℕ → Form
 form_of n =
@@ -43,12 +43,11 @@ fault_at t =
     record {
       fault = fault_of t;
       offset = t.offset;
-      done =
-          record { taken = t.taken; written = t.written };
+      done = record { taken = t.taken; written = t.written };
     }
 
 fault_back : (x : Fault) (o : ℕ) (d : Done)
-    → fault_at (fault_told (record { fault = x; offset = o; done = d })) ≡
+    → fault_at (fault_record (record { fault = x; offset = o; done = d })) ≡
     record { fault = x; offset = o; done = d }
 unfolding fault_at fault_of
 fault_back (Unread q) o d = refl
@@ -58,7 +57,7 @@ fault_back Unfinished o d = refl
 state_of : ℕ → Told → State
 state_of n t = cond (n == 0) Open (cond (n == 1) (Faulted (fault_at t)) Closed)
 
-state_back : (s : State) → state_of (state_number s) (standing s) ≡ s
+state_back : (s : State) → state_of (state_number s) (state_fault s) ≡ s
 unfolding state_of
 state_back Open = refl
 state_back (Faulted f) = ap Faulted (fault_back f.fault f.offset f.done)
@@ -81,14 +80,12 @@ snapshot_back r f g s k =
     ∙ (λ i. record {
       state = state_back s.state i;
       taken = s.taken;
-      characters =
-          s.characters;
+      characters = s.characters;
       written = s.written;
-      held =
-          take-append_seam s.held (replicate (4 - length s.held) 0) i;
+      held = take-append_seam s.held (replicate (4 - length s.held) 0) i;
     })
 
-pub one_transcript : (r : TranscriptRecord) → OneTranscript r
+pub one_transcript : OneTranscript
 one_transcript r f g f' g' s s' k k' = (
   sym (form_back f) ∙ ap form_of (sym (ap (λ z. z.source) k.numbers)
       ∙ ap (λ z. z.source) k'.numbers) ∙ form_back f',

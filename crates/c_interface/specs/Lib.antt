@@ -1,3 +1,4 @@
 pub mod Records
+pub mod FormTranscripts
 pub mod Refusals
 pub mod Calls

@@ -1,8 +1,7 @@
 // The calls on a record.
-ghost use Rattle.std.specs.Prelude.{◌≡◌, ◌≢◌, MatchResult};
-ghost use Rattle.roll.specs.declared.page.Form.{Form as ItsForm};
+ghost use Rattle.std.specs.Prelude.{◌≡◌, IfOk, IfErr};
 ghost use Rattle.roll.specs.Forms.{form_number};
-ghost use Rattle.c_interface.specs.declared.refusal.CallRefusal.TheVariants.{UnknownForm};
+ghost use Rattle.c_interface.specs.Records.{NoForm};
 ghost use Rattle.c_interface.specs.Calls.{Opens, Starts, Offers, Closes, Tells};
 
 use crate::form_transcript::FormTranscript;
@@ -14,7 +13,8 @@ use transcript::{Done, Progress};
 
 // The form with that number.
 fn form_of(number: u32) -> Result<Form, CallRefusal>
-    ensures { MatchResult result (λ f. number ≡ form_number f) (λ r. (r ≡ UnknownForm) × ((f : ItsForm) → number ≢ form_number f)) }
+    ensures found { IfOk result (λ f. number ≡ form_number f) }
+    ensures unknown { IfErr result (λ r. (r ≡ CallRefusal.UnknownForm) × NoForm number) }
 {
     let number = u8::try_from(number)?;
     Ok(Form::try_from(number)?)

@@ -1,11 +1,6 @@
 // A transcript between two forms of text, without its sets: what a record keeps.
-ghost use Rattle.std.specs.Prelude.{◌≡◌, ◌⊎◌, MatchOption, MatchResult};
+ghost use Rattle.std.specs.Prelude.{◌≡◌};
 ghost use Rattle.charset.specs.Padding.{padded};
-ghost use Rattle.roll.specs.declared.page.Form.TheVariants.{Basic};
-ghost use Rattle.forms.specs.FormSets.{form_set};
-ghost use Rattle.forms.specs.Chosen.{meaning_of};
-ghost use Rattle.transcript.specs.Snapshots.{snapshot};
-ghost use Rattle.c_interface.specs.Records.{Keeps, NoTranscript};
 
 use crate::record::{StatusRecord, TranscriptRecord};
 use charset::Front;
@@ -32,9 +27,13 @@ fn places(front: Front) -> [u8; 4]
 }
 
 impl FormTranscript {
+    ghost use Rattle.std.specs.Prelude.{MatchOption, IfOk, OnErr};
+    ghost use Rattle.c_interface.specs.Records.{NoTranscript, WantsMemory};
+    ghost use Rattle.c_interface.specs.FormTranscripts.{KeepsTranscript, ResumesAs};
+
     // The transcript that a record keeps.
     pub(crate) fn of(kept: &TranscriptRecord) -> Option<FormTranscript>
-        ensures { MatchOption result (NoTranscript kept.now) (λ k. Keeps kept.now k.source k.target (snapshot k.progress)) }
+        ensures { MatchOption result (NoTranscript kept.now) (KeepsTranscript kept.now) }
     {
         let source = Form::try_from(kept.source).ok()?;
         let target = Form::try_from(kept.target).ok()?;
@@ -50,7 +49,7 @@ impl FormTranscript {
 
     // The record that keeps it.
     pub(crate) fn record(&self) -> TranscriptRecord
-        ensures { Keeps result self.now.source self.now.target (snapshot self.now.progress) }
+        ensures { KeepsTranscript result self.now }
     {
         TranscriptRecord {
             status: StatusRecord::from(self.progress.status()),
@@ -60,9 +59,10 @@ impl FormTranscript {
         }
     }
 
-    // The same with its sets.
+    // The same, between the sets of its forms.
     pub(crate) fn with_sets(&self, heap: Global) -> Result<Transcript<FormSet, FormSet>, AllocError>
-        ensures { MatchResult result (λ t. (snapshot t.progress ≡ snapshot self.now.progress) × ((meaning_of t.converter.sets.source ≡ form_set self.now.source) × (meaning_of t.converter.sets.target ≡ form_set self.now.target))) (λ _. (self.now.source ≡ Basic) ⊎ (self.now.target ≡ Basic)) }
+        ensures resumed { IfOk result (ResumesAs self.now) }
+        ensures no_memory { OnErr result (WantsMemory self.now.source self.now.target) }
     {
         let source = FormSet::of(heap, self.source)?;
         let target = FormSet::of(heap, self.target)?;

@@ -3,14 +3,10 @@
 // record. The library itself keeps nothing between calls.
 #![tactic(auto)]
 
-ghost use Rattle.std.specs.Prelude.{◌≡◌, Result};
-ghost use Rattle.transcript.specs.declared.answers.Done.{Done as ItsDone};
 ghost use Rattle.transcript.specs.Stacks.{TheLaw};
-ghost use Rattle.c_interface.specs.declared.refusal.CallRefusal.{CallRefusal as ItsRefusal};
-ghost use Rattle.c_interface.specs.declared.record.TranscriptRecord.{TranscriptRecord as ItsRecord};
 ghost use Rattle.c_interface.specs.Records.{OneTranscript};
-ghost use Rattle.c_interface.specs.Calls.{Answers, with_nothing, Opens, Starts, Offers, Closes};
-ghost use Rattle.c_interface.specs.Calls.{Tells};
+ghost use Rattle.c_interface.specs.Calls.{Answers, with_nothing, AnswersOffer, AnswersCall};
+ghost use Rattle.c_interface.specs.Calls.{Opens, Starts, Offers, Closes, Tells};
 
 mod calls;
 mod examples;
@@ -60,7 +56,7 @@ pub extern "C" fn finetalc_open(
     transcript: &mut TranscriptRecord,
     answer: &mut Told,
 ) -> bool
-    ensures { (r : Result (Unit {0}) ItsRefusal) × Opens source target transcript.old transcript.new r × Answers (with_nothing r) answer.new result }
+    ensures { AnswersCall (Opens source target transcript.old transcript.new) answer.new result }
 {
     tell_alone(calls::open(source, target, transcript), answer)
 }
@@ -68,7 +64,7 @@ pub extern "C" fn finetalc_open(
 // Starts a transcript again, and forgets all before.
 #[unsafe(no_mangle)]
 pub extern "C" fn finetalc_start(transcript: &mut TranscriptRecord, answer: &mut Told) -> bool
-    ensures { (r : Result (Unit {0}) ItsRefusal) × Starts transcript.old transcript.new r × Answers (with_nothing r) answer.new result }
+    ensures { AnswersCall (Starts transcript.old transcript.new) answer.new result }
 {
     tell_alone(calls::start(transcript), answer)
 }
@@ -76,7 +72,7 @@ pub extern "C" fn finetalc_start(transcript: &mut TranscriptRecord, answer: &mut
 // Reads the held bytes and then the sector from the front, and writes each character behind the one
 // before.
 #[unsafe(no_mangle)]
-#[tactic(auto, using(crate::proofs::Whole::the_law))]
+#[tactic(auto, using(transcript::proofs::Whole::the_law))]
 pub extern "C" fn finetalc_offer(
     heap: Global,
     transcript: &mut TranscriptRecord,
@@ -84,8 +80,9 @@ pub extern "C" fn finetalc_offer(
     output: &mut [u8],
     answer: &mut Told,
 ) -> bool
-    ensures offers { (r : Result ItsDone ItsRefusal) × Offers transcript.old transcript.new sector.now output.old output.new r × Answers r answer.new result }
-    ensures one_transcript { (kept : ItsRecord) → OneTranscript kept }
+    ensures offers { AnswersOffer
+        (Offers transcript.old transcript.new sector.now output.old output.new) answer.new result }
+    ensures one_transcript { OneTranscript }
     ensures the_law { TheLaw }
 {
     tell(calls::offer(heap, transcript, sector, output), answer)
@@ -98,7 +95,7 @@ pub extern "C" fn finetalc_close(
     transcript: &mut TranscriptRecord,
     answer: &mut Told,
 ) -> bool
-    ensures { (r : Result (Unit {0}) ItsRefusal) × Closes transcript.old transcript.new r × Answers (with_nothing r) answer.new result }
+    ensures { AnswersCall (Closes transcript.old transcript.new) answer.new result }
 {
     tell_alone(calls::close(heap, transcript), answer)
 }
@@ -110,7 +107,7 @@ pub extern "C" fn finetalc_status(
     status: &mut StatusRecord,
     answer: &mut Told,
 ) -> bool
-    ensures { (r : Result (Unit {0}) ItsRefusal) × Tells transcript.now status.old status.new r × Answers (with_nothing r) answer.new result }
+    ensures { AnswersCall (Tells transcript.now status.old status.new) answer.new result }
 {
     tell_alone(calls::status(transcript, status), answer)
 }

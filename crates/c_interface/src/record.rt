@@ -1,6 +1,6 @@
 // A transcript between two forms of text, as numbers.
 ghost use Rattle.std.specs.Prelude.{◌≡◌, MatchOption};
-ghost use Rattle.c_interface.specs.Records.{fault_told, standing, state_number, status_record};
+ghost use Rattle.c_interface.specs.Records.{fault_record, status_record, HasState};
 ghost use Rattle.c_interface.specs.Records.{NoFault, NoState, NoStatus};
 
 use charset::SetRefusal;
@@ -35,7 +35,7 @@ pub struct TranscriptRecord {
 
 // A fault by its number and all its values.
 fn fault_record(at: FaultAt) -> Told
-    ensures { result ≡ fault_told at }
+    ensures { result ≡ fault_record at }
 {
     Told {
         taken: at.done.taken,
@@ -46,7 +46,7 @@ fn fault_record(at: FaultAt) -> Told
 
 // The fault with these numbers.
 fn fault_of(told: &Told) -> Option<FaultAt>
-    ensures { MatchOption result (NoFault told.now) (λ f. told.now ≡ fault_told f) }
+    ensures { MatchOption result (NoFault told.now) (λ f. told.now ≡ fault_record f) }
 {
     let fault = match told.number {
         6 => Fault::Unread(SetRefusal {
@@ -91,7 +91,7 @@ impl From<Status> for StatusRecord {
 impl StatusRecord {
     // The state with this number and fault.
     fn state(&self) -> Option<State>
-        ensures { MatchOption result (NoState self.now) (λ s. (self.now.state ≡ state_number s) × (self.now.fault ≡ standing s)) }
+        ensures { MatchOption result (NoState self.now) (HasState self.now) }
     {
         let unfaulted = self.fault == Told::default();
         match self.state {

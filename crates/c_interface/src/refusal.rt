@@ -1,9 +1,6 @@
 // Why a call of a C client does not succeed.
 ghost use Rattle.std.specs.Prelude.{◌≡◌};
-ghost use Rattle.transcript.specs.Told.{alone};
-ghost use Rattle.c_interface.specs.declared.refusal.CallRefusal.TheVariants.{NoMemory};
-ghost use Rattle.c_interface.specs.declared.refusal.CallRefusal.TheVariants.{UnknownForm as UnknownFormNumber};
-ghost use Rattle.c_interface.specs.declared.refusal.CallRefusal.TheVariants.{Refused};
+ghost use Rattle.c_interface.specs.declared.refusal.CallRefusal.TheVariants as refusal;
 ghost use Rattle.c_interface.specs.Refusals.{call_told};
 
 use roll::UnknownForm;
@@ -42,7 +39,7 @@ impl CallRefusal {
 }
 
 impl From<AllocError> for CallRefusal {
-    ghost from_gives = { λ _ r. r ≡ NoMemory };
+    ghost from_gives = { λ _ r. r ≡ refusal.NoMemory };
 
     fn from(_error: AllocError) -> CallRefusal {
         CallRefusal::NoMemory
@@ -50,7 +47,7 @@ impl From<AllocError> for CallRefusal {
 }
 
 impl From<TryFromIntError> for CallRefusal {
-    ghost from_gives = { λ _ r. r ≡ UnknownFormNumber };
+    ghost from_gives = { λ _ r. r ≡ refusal.UnknownForm };
 
     fn from(_error: TryFromIntError) -> CallRefusal {
         CallRefusal::UnknownForm
@@ -58,7 +55,7 @@ impl From<TryFromIntError> for CallRefusal {
 }
 
 impl From<UnknownForm> for CallRefusal {
-    ghost from_gives = { λ _ r. r ≡ UnknownFormNumber };
+    ghost from_gives = { λ _ r. r ≡ refusal.UnknownForm };
 
     fn from(_error: UnknownForm) -> CallRefusal {
         CallRefusal::UnknownForm
@@ -66,7 +63,7 @@ impl From<UnknownForm> for CallRefusal {
 }
 
 impl From<Refusal> for CallRefusal {
-    ghost from_gives = { λ q r. r ≡ Refused q };
+    ghost from_gives = { λ q r. r ≡ refusal.Refused q };
 
     fn from(refusal: Refusal) -> CallRefusal {
         CallRefusal::Refused(refusal)

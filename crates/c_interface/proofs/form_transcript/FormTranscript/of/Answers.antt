@@ -2,8 +2,7 @@ use Rattle.std.proofs.Common.{rules, refl, sym, ◌∙◌}
 use Rattle.std.proofs.lemmas.Bool.{false≢true}
 use Rattle.std.proofs.lemmas.Bool.Decides.{Decides-eqb}
 use Rattle.std.proofs.lemmas.Slice.Eq.{slice_eq-Decides}
-use Rattle.transcript.specs.Snapshots.{snapshot}
-use Rattle.c_interface.specs.Records.{Keeps}
+use Rattle.c_interface.specs.FormTranscripts.{KeepsTranscript}
 use Rattle.c_interface.proofs.Kept.{without_status, no_progress, same_places, keeps, if_so}
 use Rattle.c_interface.proofs.form_transcript.FormTranscript.of.Goals as goal
 
@@ -23,7 +22,7 @@ returns c =
     let equal = slice_eq-Decides Decides-eqb c.places.result c.args.kept.now.bytes c.eq.result
     c.eq.ensures in
     rw c.then_some.ensures
-    (if_so (λ k. Keeps c.args.kept.now k.source k.target (snapshot k.progress)) c.eq.result _
+    (if_so (KeepsTranscript c.args.kept.now) c.eq.result _
     (λ y. keeps c.args.kept.now c.in_ok-source.source c.in_ok-target.target
     c.in_ok-progress.progress c.in_ok-status.status c.followed_by-held.result
     c.in_ok-status.ensures come.0 come.1
