@@ -10,28 +10,10 @@ use Rattle.transcript.specs.declared.answers.State.{State}
 use Rattle.transcript.specs.declared.answers.State.TheVariants.{Open, Faulted, Closed}
 use Rattle.transcript.specs.declared.answers.Told.{Told}
 use Rattle.roll.specs.declared.page.Form.{Form}
-use Rattle.roll.specs.declared.page.Form.TheVariants.{EightBit, SevenBit, SevenBitParity, Latin10}
-use Rattle.roll.specs.declared.page.Form.TheVariants.{Sami, Unicode, Basic}
-use Rattle.roll.specs.Forms.{form_number}
+use Rattle.roll.proofs.FormNumbers.{same_form}
 use Rattle.transcript.specs.Calls.{Snapshot}
 use Rattle.c_interface.specs.declared.record.TranscriptRecord.{TranscriptRecord}
 use Rattle.c_interface.specs.Records.{fault_record, state_number, state_fault, Keeps, OneTranscript}
-
-form_of : ℕ → Form
-form_of n =
-    cond (n == 1) EightBit
-    (cond (n == 2) SevenBit (cond (n == 3) SevenBitParity
-    (cond (n == 4) Latin10 (cond (n == 5) Sami (cond (n == 6) Unicode Basic)))))
-
-form_back : (f : Form) → form_of (form_number f) ≡ f
-unfolding form_of
-form_back EightBit = refl
-form_back SevenBit = refl
-form_back SevenBitParity = refl
-form_back Latin10 = refl
-form_back Sami = refl
-form_back Unicode = refl
-form_back Basic = refl
 
 fault_of : Told → Fault
 fault_of t =
@@ -87,9 +69,7 @@ snapshot_back r f g s k =
 
 pub one_transcript : OneTranscript
 one_transcript r f g f' g' s s' k k' = (
-  sym (form_back f) ∙ ap form_of (sym (ap (λ z. z.source) k.numbers)
-      ∙ ap (λ z. z.source) k'.numbers) ∙ form_back f',
-  sym (form_back g) ∙ ap form_of (sym (ap (λ z. z.target) k.numbers)
-      ∙ ap (λ z. z.target) k'.numbers) ∙ form_back g',
+  same_form f f' (sym (ap (λ z. z.source) k.numbers) ∙ ap (λ z. z.source) k'.numbers),
+  same_form g g' (sym (ap (λ z. z.target) k.numbers) ∙ ap (λ z. z.target) k'.numbers),
   sym (snapshot_back r f g s k) ∙ snapshot_back r f' g' s' k',
 )

@@ -84,7 +84,6 @@ fn opened(input: &[u8]) -> Result<Roll<'_>, RollFault>
 }
 
 // What is written of an input.
-#[tactic(auto, using(crate::proofs::OneReport::one_report))]
 pub fn report(heap: Global, input: &[u8]) -> Result<Vec<u8>, AllocError>
     ensures reports { IfOk result (λ out. Reports input.now out.items) }
     ensures one_report { OneReport input.now }
