@@ -1,10 +1,11 @@
 #!/usr/bin/env python3
 """Plants bugs in the code, one at a time, and lists those that the proofs let through.
 
-    tools/planted.py make NAME..   writes tools/planted/NAME.txt: for each function some wrong edits of its body
-    tools/planted.py run [NAME..]  tries each edit of these lists (all lists, if no name is given) on a copy of the repository
+    tools/planted.py make NAME..   writes target/planted/NAME.txt: for each function some wrong edits of its body
+    tools/planted.py run [NAME..]  tries each edit of a crate's lists (of every crate that has one, if no name is given) on a copy of
+                                   the repository: tools/planted/NAME.txt, written by hand, and target/planted/NAME.txt, if it was made
 
-A list is made once, may be added to by hand, and is kept. An edit is a block of lines: `plant:` with a name and the function, `file:`, and then
+An edit is a block of lines: `plant:` with a name and the function, `file:`, and then
 pairs of `old:` and `new:`, one line each, where the old text stands in the file exactly once. An edit ends as refused (a fact no longer
 holds), bad (it does not compile, so it says nothing), or survivor. A survivor in a program is also run: it counts as told where the
 program prints another output. A line `known:` in a block says why the edit survives: it means the same, or it touches what no contract can say.
@@ -19,6 +20,7 @@ import tempfile
 
 TOP = pathlib.Path(__file__).resolve().parent.parent
 LISTS = TOP / "tools/planted"
+MADE = TOP / "target/planted"
 EACH = 5
 CODE = r"^\s*(//|#\[|use |pub use |mod |pub mod |ghost |ensures|requires|\}|\{|else \{?$)"
 HEAD = re.compile(r"^(\s*)(?:pub(?:\(crate\))? )?(?:const )?fn (\w+)")
@@ -121,8 +123,6 @@ def chosen(found):
 
 
 def make(name):
-    if (LISTS / f"{name}.txt").exists():
-        sys.exit(f"tools/planted/{name}.txt is there already; what was added by hand would be lost")
     blocks = []
     for file in sorted((TOP / "crates" / name / "src").rglob("*.rt")):
         whole = file.read_text()
@@ -130,14 +130,16 @@ def make(name):
         for function, head, body in functions(lines):
             for count, (kind, old, new) in enumerate(chosen(list(edits(lines, head, body, whole))), 1):
                 blocks.append(f"plant: {function}_{kind}_{count}\nfile: {file.relative_to(TOP / 'crates' / name)}\nold: {old.strip()}\nnew: {new.strip()}\n")
-    LISTS.mkdir(exist_ok=True)
-    (LISTS / f"{name}.txt").write_text("\n".join(blocks))
+    MADE.mkdir(parents=True, exist_ok=True)
+    (MADE / f"{name}.txt").write_text("\n".join(blocks))
     print(f"{name}: {len(blocks)} edits")
 
 
 def listed(name):
-    """The edits of a list: name, text, and the whole block."""
-    for block in filter(None, (LISTS / f"{name}.txt").read_text().strip("\n").split("\n\n")):
+    """The edits of a crate's lists: name, text, and the whole block."""
+    lists = [folder / f"{name}.txt" for folder in (LISTS, MADE)]
+    blocks = [block for one in lists if one.exists() for block in one.read_text().strip("\n").split("\n\n")]
+    for block in filter(None, blocks):
         lines = block.split("\n")
         yield lines[0][7:], "\n".join(line for line in lines[1:] if not line.startswith("known: ")), block
 
@@ -212,6 +214,6 @@ if __name__ == "__main__":
         for each in given:
             make(each)
     elif command == "run":
-        sys.exit(1 if run(given or sorted(it.stem for it in LISTS.glob("*.txt"))) else 0)
+        sys.exit(1 if run(given or sorted({it.stem for folder in (LISTS, MADE) for it in folder.glob("*.txt")})) else 0)
     else:
         sys.exit(__doc__)

@@ -10,19 +10,19 @@ use Rattle.charset.specs.Answers.{Reads, Writes}
 use Rattle.conformance.specs.Numbers.{number_of}
 use Rattle.conformance.specs.declared.vector.Question.{Question}
 use Rattle.conformance.specs.declared.vector.Question.TheVariants as question
-use Rattle.conformance.specs.declared.answer.ConverterAnswer.{ConverterAnswer}
-use Rattle.conformance.specs.declared.answer.ConverterAnswer.TheVariants as answer
+use Rattle.conformance.specs.declared.answer.Reply.{Reply}
+use Rattle.conformance.specs.declared.answer.Reply.TheVariants as answer
 
-abbrev pub told_reading : Result Reading SetRefusal → ConverterAnswer
+abbrev pub told_reading : Result Reading SetRefusal → Reply
 told_reading (Ok (Found c n)) = answer.Character c n
 told_reading (Ok Open) = answer.Open
 told_reading (Err q) = answer.Refused q.cause
 
-abbrev pub told_coding : Option (List ℕ) → ConverterAnswer
+abbrev pub told_coding : Option (List ℕ) → Reply
 told_coding None = answer.NoCoding
 told_coding (Some c) = answer.Bytes (number_of c) (length c)
 
-abbrev pub is_refusal : ConverterAnswer → Bool
+abbrev pub is_refusal : Reply → Bool
 is_refusal (answer.Character c n) = false
 is_refusal answer.Open = false
 is_refusal (answer.Refused q) = true
@@ -30,11 +30,11 @@ is_refusal (answer.Bytes b n) = false
 is_refusal answer.NoCoding = false
 
 -- r tells what reading s answers
-abbrev pub TellsReading : Meaning → List ℕ → ConverterAnswer → Type 0
+abbrev pub TellsReading : Meaning → List ℕ → Reply → Type 0
 TellsReading m s r = (a : Result Reading SetRefusal) × Reads m s a × (r ≡ told_reading a)
 
 -- r tells what writing n answers
-abbrev pub TellsWriting : Meaning → ℕ → ConverterAnswer → Type 0
+abbrev pub TellsWriting : Meaning → ℕ → Reply → Type 0
 TellsWriting m n r = (a : Option (List ℕ)) × Writes m n a × (r ≡ told_coding a)
 
 -- the string of so many hexadecimal digits, or of eight, that a number stands for
@@ -42,6 +42,6 @@ abbrev pub string_of : (width number : ℕ) → List ℕ
 string_of width n = drop (4 - width / 2) (to_be_bytes w32 n)
 
 -- r tells what is answered to a question put to n
-abbrev pub Tells : Meaning → Question → ℕ → ConverterAnswer → Type 0
+abbrev pub Tells : Meaning → Question → ℕ → Reply → Type 0
 Tells m (question.Read width) n r = TellsReading m (string_of width n) r
 Tells m question.Write n r = TellsWriting m n r

@@ -1,8 +1,8 @@
 -- When a difference is of a known kind.
 use Rattle.std.specs.Prelude.{◌≡◌, ℕ, ◌/◌, ◌≤◌, Bool, true, cond, ◌&&◌, ◌||◌, ◌⊎◌, ◌≢◌, nat_le}
 use Rattle.std.specs.Prelude.{nat_lt, Some, None, Option}
-use Rattle.conformance.specs.declared.answer.ConverterAnswer.{ConverterAnswer}
-use Rattle.conformance.specs.declared.answer.ConverterAnswer.TheVariants as answer
+use Rattle.conformance.specs.declared.answer.Reply.{Reply}
+use Rattle.conformance.specs.declared.answer.Reply.TheVariants as answer
 use Rattle.conformance.specs.declared.known.Known.{Known}
 use Rattle.conformance.specs.declared.known.Known.TheVariants as known
 use Rattle.conformance.specs.declared.vector.Set.{Set}
@@ -38,18 +38,18 @@ Beyond s c b (Some known.Waits) = ⊥
 Beyond s c b (Some known.Tags) = ⊥
 
 -- their answer and ours to a string of ISO/IEC 6937
-abbrev pub IsBar : ConverterAnswer → ConverterAnswer → Type 0
+abbrev pub IsBar : Reply → Reply → Type 0
 IsBar theirs ours = (theirs ≡ answer.Character 0x2014 1) × (ours ≡ answer.Character 0x2015 1)
 
-abbrev pub IsStroke : ConverterAnswer → ConverterAnswer → Type 0
+abbrev pub IsStroke : Reply → Reply → Type 0
 IsStroke theirs ours = (theirs ≡ answer.Character 0xd0 1) × (ours ≡ answer.Character 0x110 1)
 
-abbrev pub IsSmallG : ConverterAnswer → ConverterAnswer → Type 0
+abbrev pub IsSmallG : Reply → Reply → Type 0
 IsSmallG theirs ours =
     ((is_refusal theirs ≡ true) × (ours ≡ answer.Character 0x123 2))
     ⊎ ((theirs ≡ answer.Character 0x123 2) × (ours ≡ answer.Refused 32))
 
-abbrev pub ApartIn6937 : ConverterAnswer → ConverterAnswer → Option Known → Type 0
+abbrev pub ApartIn6937 : Reply → Reply → Option Known → Type 0
 ApartIn6937 theirs ours (Some known.Bar) = IsBar theirs ours
 ApartIn6937 theirs ours (Some known.Stroke) = IsStroke theirs ours
 ApartIn6937 theirs ours (Some known.SmallG) = IsSmallG theirs ours
@@ -61,15 +61,15 @@ ApartIn6937 theirs ours (Some known.Waits) = ⊥
 ApartIn6937 theirs ours (Some known.Tags) = ⊥
 
 -- in reading, a string whose first byte is b
-abbrev pub Waits : ConverterAnswer → ConverterAnswer → Type 0
+abbrev pub Waits : Reply → Reply → Type 0
 Waits theirs ours = (theirs ≡ answer.Open) × (is_refusal ours ≡ true)
 
-abbrev pub ReadsBeyond : Set → ConverterAnswer → ConverterAnswer → (ℕ → Type 0) → Type 0
+abbrev pub ReadsBeyond : Set → Reply → Reply → (ℕ → Type 0) → Type 0
 ReadsBeyond s theirs ours Kind =
     (s ≢ set.Utf8) × ((c : ℕ) × (theirs ≡ answer.Character c 1) × (ours ≡ answer.Refused 31)
     × Kind c)
 
-abbrev pub ApartInReading : Set → ℕ → ConverterAnswer → ConverterAnswer → Option Known → Type 0
+abbrev pub ApartInReading : Set → ℕ → Reply → Reply → Option Known → Type 0
 ApartInReading s b theirs ours (Some known.Waits) = Waits theirs ours
 ApartInReading s b theirs ours (Some known.Control) = ReadsBeyond s theirs ours (λ c. IsControl c b)
 ApartInReading s b theirs ours (Some known.Window) = ReadsBeyond s theirs ours (λ c. IsWindow s c b)
@@ -84,13 +84,13 @@ ApartInReading s b theirs ours None =
     × (IsSmallG theirs ours → ⊥))
 
 -- in writing n
-abbrev pub IsTag : Set → ℕ → ConverterAnswer → Type 0
+abbrev pub IsTag : Set → ℕ → Reply → Type 0
 IsTag s n theirs = (s ≢ set.Utf8) × (0xe0000 ≤ n) × (n ≤ 0xe007f) × (theirs ≡ answer.Bytes 0 0)
 
-abbrev pub WritesBeyond : Set → ConverterAnswer → (ℕ → Type 0) → Type 0
+abbrev pub WritesBeyond : Set → Reply → (ℕ → Type 0) → Type 0
 WritesBeyond s theirs Kind = (s ≢ set.Utf8) × ((b : ℕ) × (theirs ≡ answer.Bytes b 1) × Kind b)
 
-abbrev pub ApartInWriting : Set → ℕ → ConverterAnswer → Option Known → Type 0
+abbrev pub ApartInWriting : Set → ℕ → Reply → Option Known → Type 0
 ApartInWriting s n theirs (Some known.Tags) = IsTag s n theirs
 ApartInWriting s n theirs (Some known.Control) = WritesBeyond s theirs (λ b. IsControl n b)
 ApartInWriting s n theirs (Some known.Window) = WritesBeyond s theirs (λ b. IsWindow s n b)
@@ -104,11 +104,11 @@ ApartInWriting s n theirs None =
     × (s ≡ set.Iso6937 → (n ≢ 0x2014) × (n ≢ 0x2015) × (n ≢ 0xd0) × (n ≢ 0x110) × (n ≢ 0x123))
 
 -- a question put to n, their answer and ours
-abbrev pub ApartAt : Question → Set → ℕ → ConverterAnswer → ConverterAnswer → Option Known → Type 0
+abbrev pub ApartAt : Question → Set → ℕ → Reply → Reply → Option Known → Type 0
 ApartAt (question.Read width) s n theirs ours k =
     ApartInReading s (first_byte width n) theirs ours k
 ApartAt question.Write s n theirs ours k = ApartInWriting s n theirs k
 
 -- a question of a vector, reading or writing n, and our answer to it
-abbrev pub Apart : Vector → ℕ → ConverterAnswer → Option Known → Type 0
+abbrev pub Apart : Vector → ℕ → Reply → Option Known → Type 0
 Apart v n ours k = ApartAt v.question v.set n v.answer ours k

@@ -7,8 +7,8 @@ use Rattle.sets.specs.Utf8.{utf8}
 use Rattle.conformance.specs.declared.vector.Set.{Set}
 use Rattle.conformance.specs.declared.vector.Set.TheVariants as set
 
-abbrev pub meaning_of : Set → Meaning
-meaning_of set.Iso6937 = iso6937
-meaning_of set.Iso8859v16 = single_byte iso8859_16
-meaning_of set.Sami = single_byte sami
-meaning_of set.Utf8 = utf8
+abbrev pub named_meaning : Set → Meaning
+named_meaning set.Iso6937 = iso6937
+named_meaning set.Iso8859v16 = single_byte iso8859_16
+named_meaning set.Sami = single_byte sami
+named_meaning set.Utf8 = utf8

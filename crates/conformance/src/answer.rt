@@ -7,7 +7,7 @@ use charset::{Coding, Reading, SetRefusal};
 use std::fmt;
 
 #[derive(Clone, Copy, PartialEq, Eq)]
-pub enum ConverterAnswer {
+pub enum Reply {
     // A character's coding of so many bytes stands in front.
     Character(u32, usize),
     Open,
@@ -19,30 +19,28 @@ pub enum ConverterAnswer {
     NoCoding,
 }
 
-impl From<Result<Reading, SetRefusal>> for ConverterAnswer {
+impl From<Result<Reading, SetRefusal>> for Reply {
     ghost from_gives = { λ reading answer. answer ≡ told_reading reading };
 
-    fn from(reading: Result<Reading, SetRefusal>) -> ConverterAnswer {
+    fn from(reading: Result<Reading, SetRefusal>) -> Reply {
         match reading {
-            Ok(Reading::Found { character, length }) => ConverterAnswer::Character(
-                character, length,
-            ),
-            Ok(Reading::Open) => ConverterAnswer::Open,
-            Err(refusal) => ConverterAnswer::Refused(refusal.cause),
+            Ok(Reading::Found { character, length }) => Reply::Character(character, length),
+            Ok(Reading::Open) => Reply::Open,
+            Err(refusal) => Reply::Refused(refusal.cause),
         }
     }
 }
 
-impl From<Option<Coding>> for ConverterAnswer {
+impl From<Option<Coding>> for Reply {
     ghost from_gives = { λ coding answer. answer ≡ told_coding coding };
 
-    fn from(coding: Option<Coding>) -> ConverterAnswer {
+    fn from(coding: Option<Coding>) -> Reply {
         match coding {
             Some(coding) => {
                 let bytes = coding.as_bytes();
-                ConverterAnswer::Bytes(number_of(bytes), bytes.len())
+                Reply::Bytes(number_of(bytes), bytes.len())
             }
-            None => ConverterAnswer::NoCoding,
+            None => Reply::NoCoding,
         }
     }
 }
@@ -57,21 +55,22 @@ fn number_of(bytes: &[u8]) -> u32
     )
 }
 
-impl ConverterAnswer {
+impl Reply {
     // Two answers agree if they are the same, or both refusals: the other converter gives no cause.
-    pub fn agrees(self, other: ConverterAnswer) -> bool
+    pub fn agrees(self, other: Reply) -> bool
         ensures same { self ≡ other → result ≡ true }
         ensures refusals { is_refusal self ≡ true → is_refusal other ≡ true → result ≡ true }
-        ensures only { result ≡ true → (self ≡ other) ⊎ ((is_refusal self ≡ true) × (is_refusal other ≡ true)) }
+        ensures only { result ≡ true → (self ≡ other)
+            ⊎ ((is_refusal self ≡ true) × (is_refusal other ≡ true)) }
     {
         match (self, other) {
-            (ConverterAnswer::Refused(_), ConverterAnswer::Refused(_)) => true,
+            (Reply::Refused(_), Reply::Refused(_)) => true,
             _ => self == other,
         }
     }
 }
 
-impl fmt::Display for ConverterAnswer {
+impl fmt::Display for Reply {
     ghost use Rattle.std.specs.Prelude.{Some};
     ghost use Rattle.conformance.specs.Texts.{answer_text};
 
@@ -80,17 +79,14 @@ impl fmt::Display for ConverterAnswer {
     #[tactic(auto, using(crate::proofs::Texts::padded_is_hex_of))]
     fn fmt<W: fmt::Write>(&self, f: &mut fmt::Formatter<W>) -> fmt::Result {
         match self {
-            ConverterAnswer::Character(character, length) => write!(
-                f,
-                "U+{character:04X} of {length}"
-            ),
-            ConverterAnswer::Open => write!(f, "open"),
-            ConverterAnswer::Refused(cause) => write!(f, "refused {cause}"),
-            ConverterAnswer::Bytes(number, length) => {
+            Reply::Character(character, length) => write!(f, "U+{character:04X} of {length}"),
+            Reply::Open => write!(f, "open"),
+            Reply::Refused(cause) => write!(f, "refused {cause}"),
+            Reply::Bytes(number, length) => {
                 let width = length.saturating_mul(2);
                 write!(f, "{number:0width$X}")
             }
-            ConverterAnswer::NoCoding => write!(f, "none"),
+            Reply::NoCoding => write!(f, "none"),
         }
     }
 }

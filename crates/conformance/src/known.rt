@@ -3,7 +3,7 @@
 ghost use Rattle.std.specs.Prelude.{◌≡◌};
 ghost use Rattle.conformance.specs.Differences.{control_position, ApartIn6937, Beyond};
 
-use crate::answer::ConverterAnswer;
+use crate::answer::Reply;
 use crate::vector::Set;
 use std::fmt;
 
@@ -64,18 +64,14 @@ pub(crate) fn beyond(set: Set, character: u32, byte: u32) -> Option<Known>
 }
 
 // A difference in what a string of ISO/IEC 6937 is read as.
-pub(crate) fn in_6937(theirs: ConverterAnswer, ours: ConverterAnswer) -> Option<Known>
+pub(crate) fn in_6937(theirs: Reply, ours: Reply) -> Option<Known>
     ensures { ApartIn6937 theirs ours result }
 {
     match (theirs, ours) {
-        (ConverterAnswer::Character(0x2014, 1), ConverterAnswer::Character(0x2015, 1)) => Some(
-            Known::Bar,
-        ),
-        (ConverterAnswer::Character(0xD0, 1), ConverterAnswer::Character(0x110, 1)) => Some(
-            Known::Stroke,
-        ),
-        (ConverterAnswer::Refused(_), ConverterAnswer::Character(0x123, 2)) => Some(Known::SmallG),
-        (ConverterAnswer::Character(0x123, 2), ConverterAnswer::Refused(32)) => Some(Known::SmallG),
+        (Reply::Character(0x2014, 1), Reply::Character(0x2015, 1)) => Some(Known::Bar),
+        (Reply::Character(0xD0, 1), Reply::Character(0x110, 1)) => Some(Known::Stroke),
+        (Reply::Refused(_), Reply::Character(0x123, 2)) => Some(Known::SmallG),
+        (Reply::Character(0x123, 2), Reply::Refused(32)) => Some(Known::SmallG),
         _ => None,
     }
 }

@@ -2,7 +2,7 @@
 ghost use Rattle.std.specs.Prelude.{◌≡◌, ◌+◌, ◌-◌};
 ghost use Rattle.conformance.specs.Differences.{first_byte, Apart, ApartInReading, ApartInWriting};
 
-use crate::answer::ConverterAnswer;
+use crate::answer::Reply;
 use crate::known::{Known, beyond, in_6937};
 use crate::vector::{Question, Set, Vector};
 use std::fmt;
@@ -12,7 +12,7 @@ pub struct Stretch<'a> {
     pub vector: &'a Vector,
     pub from: u32,
     pub to: u32,
-    pub ours: ConverterAnswer,
+    pub ours: Reply,
 }
 
 impl Stretch<'_> {
@@ -34,13 +34,14 @@ impl Stretch<'_> {
 
     // A difference in what a string is read as.
     fn in_reading(&self, width: usize) -> Option<Known>
-        ensures { ApartInReading self.now.vector.now.set (first_byte width self.now.from) self.now.vector.now.answer self.now.ours result }
+        ensures { ApartInReading self.now.vector.now.set (first_byte width self.now.from)
+            self.now.vector.now.answer self.now.ours result }
     {
         let first = if width > 2 { self.from >> 8 } else { self.from };
         match (self.vector.set, self.vector.answer, self.ours) {
-            (_, ConverterAnswer::Open, ConverterAnswer::Refused(_)) => Some(Known::Waits),
+            (_, Reply::Open, Reply::Refused(_)) => Some(Known::Waits),
             (Set::Utf8, _, _) => None,
-            (set, ConverterAnswer::Character(character, 1), ConverterAnswer::Refused(31)) => beyond(
+            (set, Reply::Character(character, 1), Reply::Refused(31)) => beyond(
                 set, character, first,
             ),
             (Set::Iso6937, theirs, ours) => in_6937(theirs, ours),
@@ -50,15 +51,16 @@ impl Stretch<'_> {
 
     // A difference in how a character is written.
     fn in_writing(&self) -> Option<Known>
-        ensures { ApartInWriting self.now.vector.now.set self.now.from self.now.vector.now.answer result }
+        ensures { ApartInWriting self.now.vector.now.set self.now.from
+            self.now.vector.now.answer result }
     {
         match (self.vector.set, self.vector.answer, self.from) {
             (Set::Utf8, _, _) => None,
-            (_, ConverterAnswer::Bytes(0, 0), 0xE0000..=0xE007F) => Some(Known::Tags),
+            (_, Reply::Bytes(0, 0), 0xE0000..=0xE007F) => Some(Known::Tags),
             (Set::Iso6937, _, 0x2014..=0x2015) => Some(Known::Bar),
             (Set::Iso6937, _, 0xD0 | 0x110) => Some(Known::Stroke),
             (Set::Iso6937, _, 0x123) => Some(Known::SmallG),
-            (set, ConverterAnswer::Bytes(byte, 1), number) => beyond(set, number, byte),
+            (set, Reply::Bytes(byte, 1), number) => beyond(set, number, byte),
             _ => None,
         }
     }

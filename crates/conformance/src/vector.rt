@@ -1,9 +1,9 @@
 // A vector: a question about a run of strings or numbers, and the other converter's answer.
 ghost use Rattle.charset.specs.Sets.{set_of};
 ghost use Rattle.conformance.specs.Agreement.{TellsReading, Tells};
-ghost use Rattle.conformance.specs.Meanings.{meaning_of};
+ghost use Rattle.conformance.specs.Meanings.{named_meaning};
 
-use crate::answer::ConverterAnswer;
+use crate::answer::Reply;
 use charset::CharacterSet;
 use sets::{Iso6937, SingleByte, Utf8};
 use std::error::Error;
@@ -69,7 +69,7 @@ pub struct Vector {
     pub question: Question,
     pub from: u32,
     pub to: u32,
-    pub answer: ConverterAnswer,
+    pub answer: Reply,
 }
 
 #[derive(Clone, Copy, Debug, PartialEq, Eq)]
@@ -98,23 +98,23 @@ fn hex(text: &str) -> Result<u32, NotAVector> {
 }
 
 // The other converter's answer to a reading, as `C1/2`, `open` or `refused`.
-fn read_answer(text: &str) -> Result<ConverterAnswer, NotAVector> {
+fn read_answer(text: &str) -> Result<Reply, NotAVector> {
     match text {
-        "open" => Ok(ConverterAnswer::Open),
-        "refused" => Ok(ConverterAnswer::Refused(0)),
+        "open" => Ok(Reply::Open),
+        "refused" => Ok(Reply::Refused(0)),
         _ => {
             let (character, length) = text.split_once('/').ok_or(NotAVector)?;
-            Ok(ConverterAnswer::Character(hex(character)?, length.parse::<usize>()?))
+            Ok(Reply::Character(hex(character)?, length.parse::<usize>()?))
         }
     }
 }
 
 // The other converter's answer to a writing, as `C241`, `none` or `-`.
-fn write_answer(text: &str) -> Result<ConverterAnswer, NotAVector> {
+fn write_answer(text: &str) -> Result<Reply, NotAVector> {
     match text {
-        "none" => Ok(ConverterAnswer::NoCoding),
-        "-" => Ok(ConverterAnswer::Bytes(0, 0)),
-        _ => Ok(ConverterAnswer::Bytes(hex(text)?, text.len() / 2)),
+        "none" => Ok(Reply::NoCoding),
+        "-" => Ok(Reply::Bytes(0, 0)),
+        _ => Ok(Reply::Bytes(hex(text)?, text.len() / 2)),
     }
 }
 
@@ -146,13 +146,13 @@ impl FromStr for Vector {
 }
 
 // What a set reads in a string.
-fn reading_of<S: CharacterSet>(set: &S, bytes: &[u8]) -> ConverterAnswer
+fn reading_of<S: CharacterSet>(set: &S, bytes: &[u8]) -> Reply
     ensures { TellsReading (set_of S.CharacterSet set.now) bytes.now result }
 {
-    ConverterAnswer::from(set.read(bytes))
+    Reply::from(set.read(bytes))
 }
 
-fn ask<S: CharacterSet>(set: &S, question: Question, number: u32) -> ConverterAnswer
+fn ask<S: CharacterSet>(set: &S, question: Question, number: u32) -> Reply
     ensures { Tells (set_of S.CharacterSet set.now) question number result }
 {
     match question {
@@ -161,14 +161,14 @@ fn ask<S: CharacterSet>(set: &S, question: Question, number: u32) -> ConverterAn
             let start = 4usize.saturating_sub(width / 2);
             reading_of(set, &bytes[start..])
         }
-        Question::Write => ConverterAnswer::from(set.write(number)),
+        Question::Write => Reply::from(set.write(number)),
     }
 }
 
 impl Vector {
     // What our set answers to one question of the run. A `match`: each set is a type of its own.
-    pub(crate) fn ask(&self, number: u32) -> ConverterAnswer
-        ensures { Tells (meaning_of self.now.set) self.now.question number result }
+    pub(crate) fn ask(&self, number: u32) -> Reply
+        ensures { Tells (named_meaning self.now.set) self.now.question number result }
     {
         match self.set {
             Set::Iso6937 => ask(&Iso6937, self.question, number),

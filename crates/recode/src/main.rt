@@ -27,7 +27,8 @@ fn refused(at: FaultAt) -> anyhow::Error {
     match at.fault {
         Fault::Unread(SetRefusal { cause, depth }) => {
             anyhow!(
-                "refused {number} at offset {offset}: nothing can be read there, cause {cause}, depth {depth} (docs/REFUSALS.md lists the causes)"
+                "refused {number} at offset {offset}: nothing can be read there, cause {cause}, \
+                 depth {depth} (docs/REFUSALS.md lists the causes)"
             )
         }
         Fault::Unwritten(character) => {

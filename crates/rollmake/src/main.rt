@@ -7,7 +7,8 @@ use std::io::Write;
 use std::{env, fs};
 
 const USAGE: &str =
-    "usage: rollmake FORM FILE [FORM FILE ..] > ROLL, each form a number from 0 to 7 (docs/ROLLS.md lists them)";
+    "usage: rollmake FORM FILE [FORM FILE ..] > ROLL, each form a number from 0 to 7 \
+     (docs/ROLLS.md lists them)";
 
 fn pack(rt: &HostRuntime) -> anyhow::Result<()> {
     let words: Vec<String> = env::args(rt)?.skip(1).collect(rt.alloc())?;
