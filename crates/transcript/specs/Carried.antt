@@ -77,7 +77,8 @@ pub record CarriedOut (S T : Meaning) (bytes text : List ℕ) (characters : ℕ)
 -- up to the end or a fault, and no other, by a use of a transcript
 pub record IsTranscription (S T : Meaning) (bytes text : List ℕ) (characters : ℕ) (o : Outcome)
     : Type 0 where
-  pub the_transcription : TheTranscription S T bytes text characters (offset_in bytes o) (fault_in o)
+  pub the_transcription : TheTranscription S T bytes text characters (offset_in bytes o)
+      (fault_in o)
   pub carried_out : CarriedOut S T bytes text characters o
 
 abbrev pub Transcribes : Meaning → Meaning → List ℕ → Transcription → Type 0

@@ -13,6 +13,8 @@ use Rattle.transcript.specs.declared.answers.Refusal.TheVariants.{Faulted}
 use Rattle.transcript.specs.Calls.{Snapshot, OfferAnswer}
 use Rattle.transcript.specs.Snapshots.{snapshot}
 use Rattle.transcript.specs.Uses.{offer, close, Step}
+use Rattle.transcript.specs.Law.{TranscriptionLaw}
+use Rattle.transcript.proofs.Back.{transcription_law}
 use Rattle.transcript.proofs.Whole.{the_law}
 use Rattle.transcript.proofs.Along.{Along, along_none}
 use Rattle.transcript.specs.Carried.{Outcome, refused_by}
@@ -89,6 +91,24 @@ promised : {A B : Type 0} (f : A → Meaning) (h : B → Meaning) {x x' : A} {y 
 promised f h bytes text count o p q st =
     subst₂ (λ x y. Promised (f x) (h y) bytes text count o) p q st
 
+-- the law at the sets that were passed
+its_law : (g : Over) (x : g.row.S.Denot) (y : g.row.T.Denot)
+    → TranscriptionLaw (set_of g.S.CharacterSet x) (set_of g.T.CharacterSet y)
+its_law g x y =
+    transcription_law _ _ (g.met.S.CharacterSet.lawful x) (g.met.T.CharacterSet.lawful y)
+
+pub returns-then-bytes-gt-LONGEST_SOURCE-clause-its_law :
+    goal.returns-then-bytes-gt-LONGEST_SOURCE-clause-its_law
+returns-then-bytes-gt-LONGEST_SOURCE-clause-its_law g c = its_law g c.args.source c.args.target
+
+pub returns-in_err-extend_from_slice-in-Ok-clause-its_law :
+    goal.returns-in_err-extend_from_slice-in-Ok-clause-its_law
+returns-in_err-extend_from_slice-in-Ok-clause-its_law g c = its_law g c.args.source c.args.target
+
+pub returns-in_err-extend_from_slice-in-Err-clause-its_law :
+    goal.returns-in_err-extend_from_slice-in-Err-clause-its_law
+returns-in_err-extend_from_slice-in-Err-clause-its_law g c = its_law g c.args.source c.args.target
+
 pub loop-sector-init : goal.loop-sector-init
 loop-sector-init g c =
     let all : chunks_rest c.into_iter-sector-iterator.result ≡ c.args.bytes.now = search rules in (
@@ -98,7 +118,8 @@ loop-sector-init g c =
       refl,
       refl,
       refl,
-      rw (c.new-text.ensures.items, all) (along_none _ _ _ _ c.new-transcript.ensures.has_come),
+      rw (c.new-text.ensures.items, all)
+          (along_none _ _ _ _ c.new-transcript.ensures.between.has_come),
     )
 
 pub map_err-requires : goal.map_err-requires
@@ -130,7 +151,7 @@ returns-in-Err g c =
     let m = g.S.CharacterSet in let n = g.T.CharacterSet in
     let x = c.new-transcript.result.converter.sets.source in let y =
     c.new-transcript.result.converter.sets.target in
-    let made = c.new-transcript.ensures.has_sets in
+    let made = c.new-transcript.ensures.between.has_sets in
     let f = c.in-Err.fault in
     let longer : vec_items c.extend_from_slice-in-Err.new.self ≡ vec_items c.loop-sector.text
     ++ take f.done.written c.offer.new.output =
@@ -147,6 +168,7 @@ returns-in-Err g c =
           rw (c.of.ensures.text, c.of.ensures.characters, c.of.ensures.outcome)
           (record { the_transcription = all.0; carried_out = all.1 });
       too_long = c.if-bytes-gt-LONGEST_SOURCE.false;
+      its_law = its_law g c.args.source c.args.target;
       the_law = the_law;
     }
 
@@ -156,7 +178,7 @@ returns g c =
     let x = c.new-transcript.result.converter.sets.source in let y =
     c.new-transcript.result.converter.sets.target in
     let i = c.loop-sector.invariant in
-    let made = c.new-transcript.ensures.has_sets in
+    let made = c.new-transcript.ensures.between.has_sets in
     let at_sets : Step (set_of m x) (set_of n y) (snapshot c.loop-sector.transcript.progress)
     (close c.close.result) (snapshot c.close.new.self.progress) =
     subst₂ (λ x y. Step (set_of m x) (set_of n y) (snapshot c.loop-sector.transcript.progress)
@@ -175,5 +197,6 @@ returns g c =
           rw (c.of-2.ensures.text, c.of-2.ensures.characters, c.of-2.ensures.outcome)
           (record { the_transcription = all.0; carried_out = all.1 });
       too_long = c.if-bytes-gt-LONGEST_SOURCE.false;
+      its_law = its_law g c.args.source c.args.target;
       the_law = the_law;
     }
