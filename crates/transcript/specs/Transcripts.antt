@@ -1,7 +1,7 @@
 -- A transcript as its two sets and how far it has come, and what a call makes of it.
-use Rattle.std.specs.Prelude.{◌≡◌, List, ◌∷◌, ℕ, Result}
+use Rattle.std.specs.Prelude.{◌≡◌, List, ◌∷◌, ℕ, Some, None, Option, Result}
 use Rattle.charset.specs.declared.CharacterSet.{Ghosts}
-use Rattle.charset.specs.Meaning.{Meaning}
+use Rattle.charset.specs.Meaning.{Meaning, IsOpening}
 use Rattle.charset.specs.Sets.{set_of}
 use Rattle.transcript.specs.declared.answers.Answer.{Answer}
 use Rattle.transcript.specs.declared.answers.Refusal.{Refusal}
@@ -33,6 +33,11 @@ module _ {S T : Type 0} {g : Ghosts S} {h : Ghosts T} where
       : Type 0 where
     pub has_sets : HasSets from into t
     pub has_come : come_to t ≡ s
+
+  -- it goes on from there exactly when the held bytes are an opening of the source set
+  abbrev pub Resumed : (from : S) (into : T) → Snapshot → Option (Transcript S T g h) → Type 0
+  Resumed from into s (Some t) = IsOpening (set_of g from) s.held × Between from into s t
+  Resumed from into s None = ¬ IsOpening (set_of g from) s.held
 
   abbrev pub SameSets : (old new : Transcript S T g h) → Type 0
   SameSets old new = HasSets old.converter.sets.source old.converter.sets.target new
