@@ -1,4 +1,5 @@
-use Rattle.std.proofs.Common.{◌≡◌, ℕ, ◌≤◌, List, ◌++◌, length, take, Ok, Err, Result, vec_items}
+use Rattle.std.proofs.Common.{◌≡◌, ℕ, ◌<◌, ◌≤◌, min, List, ◌++◌, length, take, Ok, Err, Result}
+use Rattle.std.proofs.Common.{vec_items}
 use Rattle.std.proofs.Common.{sym, refl, ap, ◌∙◌, subst, subst₂, arith, rules}
 use Rattle.std.specs.Result.{MatchResult, IsErrAnd}
 use Rattle.std.specs.Slice.Iter.{chunks_rest}
@@ -47,13 +48,15 @@ one_answer (Err f) (Err g) e = let same : f ≡ g = cc in ap Err same
 comes : {A B : Type 0} (f : A → Meaning) (h : B → Meaning) {x x' : A} {y y' : B} → Laws (f x')
     → Laws (h y') → (bytes text rest sector more : List ℕ) (s t : Snapshot) (out after : List ℕ)
     (r : OfferAnswer) → x ≡ x' → y ≡ y'
-    → Along (f x') (h y') bytes text rest s → rest ≡ sector ++ more → length sector ≤ 4096
-    → length bytes ≤ 4294967296 → length out ≡ 16396
+    → Along (f x') (h y') bytes text rest s → rest ≡ sector ++ more
+    → length sector ≡ min 4096 (length rest)
+    → 0 < length rest → length bytes ≤ 4294967296 → length out ≡ 16396
     → Step (f x) (h y) s (offer sector out r after) t
     → (m : Result Done FaultAt) × (r ≡ refused_by m)
     × ComesTo (f x') (h y') bytes text after more t m
-comes f h l k bytes text rest sector more s t out after r p q along parts few small room st =
-    comes_to (f _) (h _) l k bytes text rest s t sector more out after along parts few room small r
+comes f h l k bytes text rest sector more s t out after r p q along parts size some small room st =
+    comes_to (f _) (h _) l k bytes text rest s t sector more out after along parts size some room
+    small r
     (subst₂ (λ x y. Step (f x) (h y) s (offer sector out r after) t) p q st)
 
 abbrev Comes : (g : Over) → After-offer g → Result Done FaultAt → Type 0
@@ -75,7 +78,9 @@ at_offer g c =
     c.args.bytes.now (vec_items c.loop-sector.text) _ c.in-Some.sector.now
     (chunks_rest c.next.new.self) (snapshot c.loop-sector.transcript.progress)
     (snapshot c.offer.new.self.progress) c.loop-sector.output c.offer.new.output
-    c.offer.result i.3 i.4 i.6 steps.1.0 (omega (arith, steps.1.1, i.2))
+    c.offer.result i.3 i.4 i.6 steps.1.0
+    (steps.1.1 ∙ ap (λ n. min n (length (chunks_rest c.loop-sector.sector-iterator))) i.2)
+    steps.1.2
     c.if-bytes-gt-LONGEST_SOURCE.false i.5 c.offer.ensures.step
 
 -- the same, as the answer with its fault taken out says
