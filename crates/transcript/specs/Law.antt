@@ -31,6 +31,7 @@ pub record StandsOn (S T : Meaning) (bytes out : List ℕ) (s : Snapshot) : Type
   pub counts_written : s.written ≡ length out
   pub counts_characters : s.characters ≡ length chars
 
+-- the same of a use: of the bytes taken and written since its last start
 abbrev pub Stands : Meaning → Meaning → List Event → Snapshot → Type 0
 Stands S T past s = StandsOn S T (taken_in past) (written_in past) s
 
@@ -243,11 +244,13 @@ pub record ReadsBack (S T : Meaning) (past again : List Event) (second : Snapsho
   pub no_fault : AllFaultless again
   pub once_all_taken : taken_in again ≡ written_in past → ComesBack S T past again second
 
+-- so there and back: the bytes written of every use that ended well
 abbrev pub GoesBack : Meaning → Meaning → Type 0
 GoesBack S T =
     (past again : List Event) (second : Snapshot) → EndsWell S T past
     → OfferedBack S T past again second → ReadsBack S T past again second
 
+-- the law of transcription between two sets
 pub record TranscriptionLaw (S T : Meaning) : Type 0 where
   pub every_use : (past : List Event) (s : Snapshot) → Use S T past s → Stands S T past s
   pub status_tells : StatusTells S T

@@ -51,7 +51,8 @@ wrote (Err AlreadyClosed) = 0
 wrote (Err (Faulted f)) = f.done.written
 wrote (Err (Full d)) = d.written
 
--- the output is as it was behind the bytes that are told as written
+-- the output is as it was behind the bytes that are told as written; the sector is lent to be read
+-- alone, so nothing writes it
 abbrev pub OutputStays : Event → Type 0
 OutputStays start = Unit {0}
 OutputStays (offer sector out r after) = drop (wrote r) after ≡ drop (wrote r) out
