@@ -100,7 +100,7 @@ cedilla_offered = call made (record {
 pub worked_examples : WorkedExamples
 worked_examples = record {
   transcript_limits = (refl, refl, refl);
-  roll_limits = (refl, refl, refl, refl);
+  roll_limits = (refl, refl, refl, refl, refl);
   of_sets_and_layers = of_sets_and_layers;
   acute_held = acute_offered;
   letter_next = letter_offered;

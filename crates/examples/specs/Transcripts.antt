@@ -8,7 +8,7 @@ use Rattle.transcript.specs.declared.answers.Refusal.TheVariants.{Faulted}
 use Rattle.transcript.specs.declared.answers.State.TheVariants.{Open}
 use Rattle.transcript.specs.declared.answers.State.TheVariants as state
 use Rattle.transcript.specs.declared.TheConstants.{LONGEST_SECTOR, LONGEST_OUTPUT, LONGEST_SOURCE}
-use Rattle.roll.specs.declared.TheConstants.{SMALLEST_ROLL, LARGEST_ROLL, MOST_PAGES}
+use Rattle.roll.specs.declared.TheConstants.{SMALLEST_ROLL, LARGEST_ROLL, MOST_PAGES, LAST_FORM}
 use Rattle.report.specs.declared.TheConstants.{LONGEST_INPUT}
 use Rattle.transcript.specs.Told.{told}
 use Rattle.transcript.specs.Calls.{done, fault_at}
@@ -17,11 +17,11 @@ use Rattle.examples.specs.SetsAndLayers.{WorkedExamples as OfSetsAndLayers}
 
 pub record WorkedExamples : Type 0 where
   -- how many bytes a sector, an output and a source may have; how many a roll may have, how many
-  -- pages, and how many bytes of a roll are read
+  -- pages, and which forms; and how many bytes of a roll are read
   pub transcript_limits :
       (LONGEST_SECTOR ≡ 4096) × (LONGEST_OUTPUT ≡ 65536) × (LONGEST_SOURCE ≡ 4294967296)
   pub roll_limits : (SMALLEST_ROLL ≡ 16) × (LARGEST_ROLL ≡ 1048576) × (MOST_PAGES ≡ 1024)
-      × (LONGEST_INPUT ≡ 65536)
+      × (LAST_FORM ≡ 7) × (LONGEST_INPUT ≡ 65536)
   pub of_sets_and_layers : OfSetsAndLayers
   -- ISO/IEC 6937 into ISO/IEC 8859-16: an acute in one sector is held, and with its letter in the
   -- next it is written

@@ -1,6 +1,6 @@
 // Transcripts between the sets of this repository: every refusal but 3 from every state, and the
 // edges of an offer.
-use charset::SetRefusal;
+use charset::{Front, SetRefusal};
 use conversion::Fault;
 use sets::{Iso6937, SingleByte, Utf8};
 use std::test::*;
@@ -51,7 +51,7 @@ fn put_down_and_taken_up(rt: HostRuntime) -> Result<(), Fail> {
     let mut output = [0u8; 2];
     assert_eq!(rt; first.offer(b"a\xC2", &mut output), Ok(done(2, 1)));
     let progress = first.progress();
-    let mut second = Transcript::resume(Iso6937, Utf8, progress);
+    let mut second = Transcript::resume(Iso6937, Utf8, progress).ok_or("not open")?;
     assert_eq!(rt; second.status(), status(2, 1, 1, 1, State::Open));
     assert_eq!(rt; second.offer(b"e", &mut output), Ok(done(1, 2)));
     assert!(rt; output[0] == 0xC3 && output[1] == 0xA9);
@@ -64,6 +64,10 @@ fn put_down_and_taken_up(rt: HostRuntime) -> Result<(), Fail> {
     assert!(rt; Progress::of(status(6, 1, 1, 1, State::Open), held).is_none());
     assert!(rt; Progress::of(status(2, 1, 0, 1, State::Open), held).is_none());
     assert!(rt; Progress::of(status(2, 1, 5, 1, State::Open), held).is_none());
+    // Nor where the source set does not read the held bytes as open.
+    let letters = Front::empty().followed_by(b"abcd");
+    let passed = Progress::of(status(4, 0, 0, 4, State::Open), letters).ok_or("counts")?;
+    assert!(rt; Transcript::resume(Iso6937, Utf8, passed).is_none());
     Ok(())
 }
 

@@ -29,4 +29,5 @@ const ENTRY_BYTES: usize = 12;
 
 const TRAILER_BYTES: usize = 16;
 
-const LAST_FORM: u8 = 7;
+// The highest number of a form.
+pub const LAST_FORM: u8 = 7;
