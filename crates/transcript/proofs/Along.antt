@@ -15,13 +15,14 @@ use Rattle.transcript.specs.Calls.{Snapshot, fresh, limits}
 use Rattle.transcript.specs.Uses.{Event, start, Use, made, taken_in, written_in}
 use Rattle.transcript.specs.Law.{Feeds}
 use Rattle.conversion.specs.Transcribed.{Ends, Transcribed}
-use Rattle.transcript.specs.Carried.{AllTakenOrFaulted}
+use Rattle.transcript.specs.Carried.{InPieces, AllTakenOrFaulted}
 
 -- the bytes before the rest are offered and taken, and their text is written
 pub record Along (S T : Meaning) (bytes text rest : List ℕ) (s : Snapshot) : Type 0 where
   pub offers : List Event
   pub used : Use S T offers s
   pub fed : Feeds bytes offers
+  pub in_pieces : InPieces bytes offers
   pub answered : AllTakenOrFaulted offers
   pub going : s.state ≡ Open
   pub parts : bytes ≡ taken_in offers ++ rest
@@ -34,6 +35,7 @@ along_none S T bytes s e =
       offers = start ∷ [];
       used = made;
       fed = refl;
+      in_pieces = tt;
       answered = tt;
       going =
           refl;

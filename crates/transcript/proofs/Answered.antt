@@ -126,8 +126,8 @@ module _ (S T : Meaning) (l : Laws S) where
       let a = answered s sector out in
       record {
         answer = a.0;
-        after = a.1;
-        next = a.2;
+        out_after = a.1;
+        after = a.2;
         step = a.3;
         only =
             λ r o t h. one_answer s t a.2 sector out o a.1 r a.0 h a.3;

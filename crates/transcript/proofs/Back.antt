@@ -27,6 +27,7 @@ use Rattle.transcript.specs.Law.{StandsOn, StatusTells, Feeds, Faultless, AllFau
 use Rattle.transcript.specs.Law.{TranscriptionLaw}
 use Rattle.transcript.proofs.Keeping.{stands, regroup_more}
 use Rattle.transcript.proofs.Exact.{offers_exactly, closes_exactly}
+use Rattle.transcript.proofs.Stepping.{output_stays}
 use Rattle.transcript.proofs.Answered.{one_outcome}
 
 -- what is left of whole characters, all with codings in T too
@@ -167,38 +168,53 @@ module _ (S T : Meaning) (l : Laws S) where
           (sym one.1, spells_one T cs (written_in again) v (rw one.0 st.writes) k)
 
 pub goes_back : (S T : Meaning) → Laws S → Laws T → GoesBack S T
-goes_back S T l k past s t run p close-ok small again u run' f =
-    let st = stands S T l run in
-    let m = st.decodes in
-    let empty : s.held ≡ [] = (closes_exactly S T l past s t (Ok tt) run p close-ok).0 refl in
-    let g = fed T S k st.chars (written_in past) m.spelt st.writes m.spells small run' f in (
-      g.1,
-      λ e.
-          let all = all_taken T S k st.chars (written_in past) m.spelt st.writes m.spells small run'
-          e in (
-            λ r v c. (closes_exactly T S k again u v r run' g.0 c).1 all.0,
-            all.1
-                ∙ sym (m.parts ∙ ap (λ z. m.spelt ++ z) empty ∙ append-nil m.spelt),
-          ),
-    )
+goes_back S T l k past again u ended back =
+    let m = (stands S T l ended.used).decodes in
+    let chars = (stands S T l ended.used).chars in
+    let writes = (stands S T l ended.used).writes in
+    let empty : ended.last.held ≡ [] =
+    (closes_exactly S T l ended.last (Ok tt) (record {
+      past = past;
+      after = ended.closed;
+      used = ended.used;
+      is_open = ended.is_open;
+      step = ended.closes;
+    })).0 refl in
+    let g = fed T S k chars (written_in past) m.spelt writes m.spells ended.not_too_long back.used
+    back.fed in record {
+      no_fault = g.1;
+      once_all_taken = λ e.
+          let all = all_taken T S k chars (written_in past) m.spelt writes m.spells
+          ended.not_too_long back.used e in record {
+            closes = λ r v c. (closes_exactly T S k u r (record {
+              past = again;
+              after = v;
+              used = back.used;
+              is_open = g.0;
+              step = c;
+            })).1 all.0;
+            writes_back =
+                all.1 ∙ sym (m.parts ∙ ap (λ z. m.spelt ++ z) empty ∙ append-nil m.spelt);
+          };
+    }
 
 pub status_tells : (S T : Meaning) → Laws S → StatusTells S T
-status_tells S T l past s t r chars held run p m =
-    let st = stands S T l run in
-    let one = st.only chars held m in
-    rw p.0 (
-      st.counts_taken,
-      st.counts_written,
-      ap length (sym one.1),
-      st.counts_characters
-          ∙ ap length (sym one.0),
-    )
+status_tells S T l past r chars held asked =
+    let st = stands S T l asked.used in
+    let one = st.only chars held asked.decodes in
+    rw asked.step.0 (record {
+      taken_is = st.counts_taken;
+      written_is = st.counts_written;
+      held_is = ap length (sym one.1);
+      characters_is = st.counts_characters ∙ ap length (sym one.0);
+    })
 
 pub transcription_law : (S T : Meaning) → Laws S → Laws T → TranscriptionLaw S T
 transcription_law S T l k = record {
   every_use = λ past s run. stands S T l run;
   status_tells = status_tells S T l;
   every_offer = offers_exactly S T l;
+  output_stays = λ s t e st. output_stays S T s t e st;
   one_outcome = one_outcome S T l;
   closes_exactly = closes_exactly S T l;
   there_and_back = goes_back S T l k;

@@ -42,6 +42,7 @@ module _ (S T : Meaning) (l : Laws S) (bytes text : List ℕ) where
       told = status_of t;
       used = call h.used (refl, refl);
       fed = h.fed;
+      in_pieces = h.in_pieces;
       taken_or_faulted = h.answered;
       ended = inl (f, refl, h.state_is, refl);
       text_is = h.text_is;
@@ -110,6 +111,7 @@ module _ (S T : Meaning) (l : Laws S) (bytes text : List ℕ) where
               told = status_of t;
               used = call (call along.used step) (refl, refl);
               fed = along.fed;
+              in_pieces = along.in_pieces;
               taken_or_faulted = along.answered;
               ended = inr (taken_all, refl);
               text_is = along.text_is;

@@ -21,7 +21,7 @@ use Rattle.transcript.specs.Uses.{wrote, taken_in, written_in}
 use Rattle.transcript.specs.Law.{StandsOn, Stands}
 
 -- the part of the sector that goes with held bytes
-taken_part : (held sector source rest : List ℕ) → held ++ sector ≡ source ++ rest
+pub taken_part : (held sector source rest : List ℕ) → held ++ sector ≡ source ++ rest
     → length held ≤ length source → held ++ take (length source - length held) sector ≡ source
 taken_part held sector source rest e h =
     let n_is : length held + (length source - length held) ≡ length source = omega arith in
@@ -92,7 +92,7 @@ module _ (S T : Meaning) (l : Laws S) where
   closing bytes out s t r Closed held c h = rw c.1 h
 
   -- the first character read is longer than what was held
-  source_longer : (held sector chars source rest : List ℕ) (c : ℕ) → IsOpening S held
+  pub source_longer : (held sector chars source rest : List ℕ) (c : ℕ) → IsOpening S held
       → Spells S (c ∷ chars) source → held ++ sector ≡ source ++ rest → length held < length source
   source_longer held sector chars source rest c o p e =
       let long = opening_passed l held sector c (length p.0) o

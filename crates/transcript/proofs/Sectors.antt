@@ -1,8 +1,10 @@
 -- One sector more: the text goes on, or ends in a fault, and the output is never too small.
-use Rattle.std.proofs.Common.{◌≡◌, ℕ, ◌+◌, ◌≤◌, ◌⊎◌, List, ◌∷◌, ◌++◌, length, take, Some, None, Ok}
+use Rattle.std.proofs.Common.{◌≡◌, ℕ, ◌+◌, ◌<◌, ◌≤◌, min, ◌⊎◌, List, ◌∷◌, ◌++◌, length, take, Some}
+use Rattle.std.proofs.Common.{None, Ok}
 use Rattle.std.proofs.Common.{Err, Result, sym, refl, ap, ◌∙◌, subst, inl, inr, append_assoc, arith}
 use Rattle.std.proofs.Common.{length-append, length-take}
 use lib.Seq.{take-append_seam, take-length}
+use Rattle.std.proofs.lemmas.List.{take_min}
 use Rattle.charset.specs.Meaning.{Meaning, Laws}
 use Rattle.charset.specs.Decoding.{Spells}
 use Rattle.charset.proofs.Spelling.{spells_append}
@@ -21,7 +23,8 @@ use Rattle.transcript.specs.Law.{Feeds, StandsOn}
 use Rattle.transcript.proofs.Counting.{spelt_size}
 use Rattle.transcript.proofs.Keeping.{stands, regroup_more}
 use Rattle.conversion.specs.Transcribed.{Transcribed}
-use Rattle.transcript.specs.Carried.{refused_by, TakenOrFaulted, AllTakenOrFaulted}
+use Rattle.transcript.specs.Carried.{refused_by, TakenOrFaulted, AllTakenOrFaulted, NextPiece}
+use Rattle.transcript.specs.Carried.{InPieces}
 use Rattle.transcript.proofs.Along.{Along, up_to, within, ends_on}
 
 -- a last offer met a fault
@@ -29,6 +32,7 @@ pub record Stopped (S T : Meaning) (bytes text : List ℕ) (f : FaultAt) (t : Sn
   pub offers : List Event
   pub used : Use S T offers t
   pub fed : Feeds bytes offers
+  pub in_pieces : InPieces bytes offers
   pub answered : AllTakenOrFaulted offers
   pub state_is : t.state ≡ Faulted f
   pub text_is : text ≡ written_in offers
@@ -56,13 +60,27 @@ err_end (Err f) q o n w h = inr (f, refl, cc)
 
 module _ (S T : Meaning) (l : Laws S) (k : Laws T) (bytes text rest : List ℕ) (s t : Snapshot)
     (sector more out after : List ℕ) (along : Along S T bytes text rest s)
-    (parts : rest ≡ sector ++ more) (few : length sector ≤ 4096) (room : length out ≡ 16396)
+    (parts : rest ≡ sector ++ more) (size : length sector ≡ min 4096 (length rest))
+    (some_left : 0 < length rest) (room : length out ≡ 16396)
     (small : length bytes ≤ 4294967296) where
   before : StandsOn S T (taken_in along.offers) (written_in along.offers) s
   before = stands S T l along.used
 
   whole : bytes ≡ taken_in along.offers ++ (sector ++ more)
   whole = along.parts ∙ ap (λ z. taken_in along.offers ++ z) parts
+
+  few : length sector ≤ 4096
+  few = omega (arith, size)
+
+  next_piece : NextPiece bytes (taken_in along.offers) sector
+  next_piece = record {
+    rest = rest;
+    parts = along.parts;
+    some_left = some_left;
+    piece =
+        sym (take-append_seam sector more) ∙ ap (λ z. take (length sector) z) (sym parts)
+        ∙ ap (λ n. take n rest) size ∙ take_min 4096 rest;
+  }
 
   long : length bytes ≡ s.taken + (length sector + length more)
   long =
@@ -147,6 +165,7 @@ module _ (S T : Meaning) (l : Laws S) (k : Laws T) (bytes text rest : List ℕ) 
         offers = offer sector out (Ok d) after ∷ along.offers;
         used = call along.used st;
         fed = feeds (Ok d);
+        in_pieces = (next_piece, along.in_pieces);
         answered = (tt, along.answered);
         going =
             ap (λ z. z.state) w.next ∙ ap (λ z. state_after z (offset_of s w.source)
@@ -168,6 +187,7 @@ module _ (S T : Meaning) (l : Laws S) (k : Laws T) (bytes text rest : List ℕ) 
         offers = offer sector out (Err q) after ∷ along.offers;
         used = call along.used st;
         fed = feeds (Err q);
+        in_pieces = (next_piece, along.in_pieces);
         answered = (subst (λ z. TakenOrFaulted (Err z)) (sym h) tt, along.answered);
         state_is =
             ap (λ z. z.state) w.next ∙ ap (λ z. state_after z (offset_of s w.source)

@@ -1,16 +1,15 @@
--- One call, with its buffers, as a step of a use.
+-- One call, with its buffers, as an event of a use.
 use Rattle.std.specs.Prelude.{◌≡◌, ℕ, ◌⊎◌, List, [], Ok, Err, Result}
 use Rattle.std.proofs.Common.{inl, inr}
 use Rattle.std.specs.Borrow.{Bor, MutBor}
-use Rattle.charset.specs.Meaning.{Meaning}
 use Rattle.transcript.specs.declared.answers.Answer.{Answer}
 use Rattle.transcript.specs.declared.answers.Answer.TheVariants as answer
 use Rattle.transcript.specs.declared.answers.Refusal.{Refusal}
 use Rattle.transcript.specs.declared.answers.Status.{Status}
 use Rattle.transcript.specs.declared.calls.Call.{Call}
 use Rattle.transcript.specs.declared.calls.Call.TheVariants as call
-use Rattle.transcript.specs.Calls.{Snapshot, OfferAnswer, CloseAnswer}
-use Rattle.transcript.specs.Uses.{start, offer, close, status, Step}
+use Rattle.transcript.specs.Calls.{OfferAnswer, CloseAnswer}
+use Rattle.transcript.specs.Uses.{Event, start, offer, close, status}
 
 -- a call as it is seen at the return: its cases in order, as a sum
 abbrev pub Returned : Type 0
@@ -31,10 +30,10 @@ abbrev pub closed : CloseAnswer → Result Answer Refusal
 closed (Ok u) = Ok answer.Closed
 closed (Err q) = Err q
 
-abbrev pub Called : Meaning → Meaning → Snapshot → Call → Snapshot → Returned
-    → Result Answer Refusal → Type 0
-Called S T s call.Start t g r = Step S T s start t × (r ≡ Ok answer.Started)
-Called S T s (call.Offer i o) t g r =
-    (a : OfferAnswer) × Step S T s (offer i.now o.now a (output_after g)) t × (r ≡ offered a)
-Called S T s call.Close t g r = (a : CloseAnswer) × Step S T s (close a) t × (r ≡ closed a)
-Called S T s call.Status t g r = (a : Status) × Step S T s (status a) t × (r ≡ Ok (answer.Told a))
+-- the call with its buffers and its answer is that event
+abbrev pub IsEvent : Call → Returned → Result Answer Refusal → Event → Type 0
+IsEvent call.Start g r e = (e ≡ start) × (r ≡ Ok answer.Started)
+IsEvent (call.Offer i o) g r e =
+    (a : OfferAnswer) × (e ≡ offer i.now o.now a (output_after g)) × (r ≡ offered a)
+IsEvent call.Close g r e = (a : CloseAnswer) × (e ≡ close a) × (r ≡ closed a)
+IsEvent call.Status g r e = (a : Status) × (e ≡ status a) × (r ≡ Ok (answer.Told a))

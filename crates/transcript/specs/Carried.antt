@@ -1,8 +1,8 @@
 -- What carrying out a use of a transcript on a text comes to.
-use Rattle.std.specs.Prelude.{vec_items, ◌≡◌, ℕ, ◌⊎◌, List, [], ◌∷◌, length, Some, None, Ok, Err}
-use Rattle.std.specs.Prelude.{Option}
-use Rattle.std.specs.Prelude.{Result}
+use Rattle.std.specs.Prelude.{vec_items, ◌≡◌, ℕ, ◌<◌, ◌⊎◌, List, [], ◌∷◌, ◌++◌, length, take, Some}
+use Rattle.std.specs.Prelude.{None, Option, Ok, Err, Result}
 use Rattle.charset.specs.Meaning.{Meaning}
+use Rattle.transcript.specs.declared.TheConstants.{LONGEST_SECTOR}
 use Rattle.conversion.specs.declared.Fault.{Fault}
 use Rattle.transcript.specs.declared.answers.FaultAt.{FaultAt}
 use Rattle.transcript.specs.declared.answers.Refusal.{Refusal}
@@ -51,6 +51,23 @@ AllTakenOrFaulted (offer sector out r after ∷ past) = TakenOrFaulted r × AllT
 AllTakenOrFaulted (close r ∷ past) = AllTakenOrFaulted past
 AllTakenOrFaulted (status r ∷ past) = AllTakenOrFaulted past
 
+-- the next piece of a text of which these bytes were taken: the first LONGEST_SECTOR bytes of what
+-- is left, or all of it where it is shorter
+pub record NextPiece (bytes taken sector : List ℕ) : Type 0 where
+  pub rest : List ℕ
+  pub parts : bytes ≡ taken ++ rest
+  pub some_left : 0 < length rest
+  pub piece : sector ≡ take LONGEST_SECTOR rest
+
+-- the sectors are the text cut into such pieces
+abbrev pub InPieces : List ℕ → List Event → Type 0
+InPieces bytes [] = Unit {0}
+InPieces bytes (start ∷ past) = InPieces bytes past
+InPieces bytes (offer sector out r after ∷ past) =
+    NextPiece bytes (taken_in past) sector × InPieces bytes past
+InPieces bytes (close r ∷ past) = InPieces bytes past
+InPieces bytes (status r ∷ past) = InPieces bytes past
+
 -- after offers of the bytes a last one faulted, or they were all taken and a closing was answered;
 -- then came a status call
 abbrev pub Ended : List ℕ → List Event → List Event → Snapshot → Outcome → Status → Type 0
@@ -59,7 +76,7 @@ Ended bytes offers events last outcome told =
     × (events ≡ status told ∷ offers))
     ⊎ ((taken_in offers ≡ bytes) × (events ≡ status told ∷ (close (refused_by outcome) ∷ offers)))
 
--- a use of a transcript in which the bytes were offered, and what it came to
+-- a use of a transcript in which the bytes were offered piece after piece, and what it came to
 pub record CarriedOut (S T : Meaning) (bytes text : List ℕ) (characters : ℕ)
     (outcome : Outcome) : Type 0 where
   pub offers : List Event
@@ -68,6 +85,7 @@ pub record CarriedOut (S T : Meaning) (bytes text : List ℕ) (characters : ℕ)
   pub told : Status
   pub used : Use S T events last
   pub fed : Feeds bytes offers
+  pub in_pieces : InPieces bytes offers
   pub taken_or_faulted : AllTakenOrFaulted offers
   pub ended : Ended bytes offers events last outcome told
   pub text_is : text ≡ written_in events
@@ -77,7 +95,8 @@ pub record CarriedOut (S T : Meaning) (bytes text : List ℕ) (characters : ℕ)
 -- up to the end or a fault, and no other, by a use of a transcript
 pub record IsTranscription (S T : Meaning) (bytes text : List ℕ) (characters : ℕ) (o : Outcome)
     : Type 0 where
-  pub the_transcription : TheTranscription S T bytes text characters (offset_in bytes o) (fault_in o)
+  pub the_transcription : TheTranscription S T bytes text characters (offset_in bytes o)
+      (fault_in o)
   pub carried_out : CarriedOut S T bytes text characters o
 
 abbrev pub Transcribes : Meaning → Meaning → List ℕ → Transcription → Type 0

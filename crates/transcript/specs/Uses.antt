@@ -1,5 +1,5 @@
 -- A use of a transcript: calls in any order and number, the newest first.
-use Rattle.std.specs.Prelude.{◌≡◌, ℕ, List, [], ◌∷◌, ◌++◌, take, Ok, Err}
+use Rattle.std.specs.Prelude.{◌≡◌, ℕ, List, [], ◌∷◌, ◌++◌, take, drop, Ok, Err}
 use Rattle.charset.specs.Meaning.{Meaning}
 use Rattle.transcript.specs.declared.answers.Status.{Status}
 use Rattle.transcript.specs.declared.answers.Refusal.TheVariants.{SectorTooLong, OutputTooLong}
@@ -50,6 +50,14 @@ wrote (Err (Standing f)) = 0
 wrote (Err AlreadyClosed) = 0
 wrote (Err (Faulted f)) = f.done.written
 wrote (Err (Full d)) = d.written
+
+-- the output is as it was behind the bytes that are told as written; the sector is lent to be read
+-- alone, so nothing writes it
+abbrev pub OutputStays : Event → Type 0
+OutputStays start = Unit {0}
+OutputStays (offer sector out r after) = drop (wrote r) after ≡ drop (wrote r) out
+OutputStays (close r) = Unit {0}
+OutputStays (status r) = Unit {0}
 
 -- the bytes taken and written since the last start
 abbrev pub taken_in : List Event → List ℕ

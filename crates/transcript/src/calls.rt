@@ -1,7 +1,7 @@
 // The calls of a transcript.
-ghost use Rattle.std.specs.Prelude.{◌≡◌};
+ghost use Rattle.std.specs.Prelude.{◌≡◌, [], ◌∷◌};
 ghost use Rattle.transcript.specs.Calls.{fresh, status_of};
-ghost use Rattle.transcript.specs.Uses.{start, offer, close};
+ghost use Rattle.transcript.specs.Uses.{Use, start, offer, close, status};
 
 use crate::answers::{Answer, Done, Refusal, State, Status};
 use crate::progress::Progress;
@@ -28,11 +28,14 @@ pub enum Call<'a> {
 }
 
 impl<S: CharacterSet, T: CharacterSet> Transcript<S, T> {
-    ghost use Rattle.transcript.specs.Transcripts.{come_to, Between, Steps, Calls, Feeds};
+    ghost use Rattle.transcript.specs.Transcripts.{source_set, target_set, come_to, Between};
+    ghost use Rattle.transcript.specs.Transcripts.{GoesOn, Steps, Calls, Feeds};
 
     // A transcript that is started.
     pub fn new(source: S, target: T) -> Transcript<S, T>
-        ensures { Between source target fresh result }
+        ensures between { Between source target fresh result }
+        ensures started { Use (source_set result) (target_set result) (start ∷ [])
+            (come_to result) }
     {
         Transcript {
             converter: Converter::new(source, target),
@@ -101,7 +104,8 @@ impl<S: CharacterSet, T: CharacterSet> Transcript<S, T> {
 
     // What it has come to since the start.
     pub fn status(&self) -> Status
-        ensures { result ≡ status_of (come_to self.now) }
+        ensures told { result ≡ status_of (come_to self.now) }
+        ensures goes_on { GoesOn self.now (status result) self.now }
     {
         self.progress.status()
     }

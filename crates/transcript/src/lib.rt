@@ -3,12 +3,14 @@
 #![tactic(auto)]
 
 mod answers;
+mod by_law;
 mod calls;
 mod progress;
 mod resume;
 mod transcription;
 
 pub use answers::{Answer, Done, FaultAt, Refusal, State, Status, Told, fault_number};
+pub use by_law::offer_by_law;
 pub use calls::{Call, Transcript};
 pub use progress::Progress;
 pub use transcription::{Failure, Transcription, transcribe};

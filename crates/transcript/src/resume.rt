@@ -1,13 +1,13 @@
 // Where a transcript is put down and taken up again.
 ghost use Rattle.std.specs.Prelude.{◌≡◌};
 ghost use Rattle.transcript.specs.Snapshots.{snapshot, Restored};
-ghost use Rattle.transcript.specs.Transcripts.{come_to, Between};
+ghost use Rattle.transcript.specs.Transcripts.{come_to, Resumed};
 
 use crate::LONGEST_SOURCE;
 use crate::answers::Status;
 use crate::calls::Transcript;
 use crate::progress::Progress;
-use charset::{CharacterSet, Front};
+use charset::{CharacterSet, Front, Reading};
 use conversion::Converter;
 
 impl Progress {
@@ -52,17 +52,23 @@ impl Progress {
     }
 }
 
-impl<S: CharacterSet, T: CharacterSet> Transcript<S, T> {
-    // A transcript that goes on from where one came to.
-    pub fn resume(source: S, target: T, progress: Progress) -> Transcript<S, T>
-        ensures { Between source target (snapshot progress) result }
+impl<S: CharacterSet + Drop, T: CharacterSet + Drop> Transcript<S, T> {
+    // A transcript that goes on from where one came to; none where the source set does not read the
+    // held bytes as open, as it does those of every transcript from it.
+    pub fn resume(source: S, target: T, progress: Progress) -> Option<Transcript<S, T>>
+        ensures { Resumed source target (snapshot progress) result }
     {
-        Transcript {
+        let Ok(Reading::Open) = source.read(progress.held.as_bytes()) else {
+            return None;
+        };
+        Some(Transcript {
             converter: Converter::new(source, target),
             progress,
-        }
+        })
     }
+}
 
+impl<S: CharacterSet, T: CharacterSet> Transcript<S, T> {
     // How far it has come, without the sets: enough to resume it.
     pub fn progress(&self) -> Progress
         ensures { snapshot result ≡ come_to self.now }

@@ -3,6 +3,7 @@ ghost use Rattle.std.specs.Prelude.{◌≡◌, IfOk, Some};
 ghost use Rattle.charset.specs.Sets.{set_of};
 ghost use Rattle.transcript.specs.declared.answers.FaultAt.{FaultAt as Placed};
 ghost use Rattle.transcript.specs.declared.answers.Refusal.TheVariants.{Faulted};
+ghost use Rattle.transcript.specs.Law.{TranscriptionLaw};
 ghost use Rattle.transcript.specs.Stacks.{TheLaw};
 ghost use Rattle.transcript.specs.declared.transcription.Failure.TheVariants.{NoMemory};
 ghost use Rattle.transcript.specs.Failures.{IsTooLong, message};
@@ -100,6 +101,8 @@ pub fn transcribe<S: CharacterSet + Drop, T: CharacterSet + Drop>(
     ensures transcribed { IfOk result (Transcribes (set_of S.CharacterSet source)
         (set_of T.CharacterSet target) bytes.now) }
     ensures too_long { IsTooLong bytes.now result }
+    ensures its_law { TranscriptionLaw (set_of S.CharacterSet source)
+        (set_of T.CharacterSet target) }
     ensures the_law { TheLaw }
 {
     if bytes.len() as u64 > LONGEST_SOURCE {

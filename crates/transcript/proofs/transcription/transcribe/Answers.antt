@@ -1,5 +1,6 @@
-use Rattle.std.proofs.Common.{◌≡◌, ℕ, ◌≤◌, List, ◌++◌, length, take, Ok, Err, Result, vec_items}
-use Rattle.std.proofs.Common.{sym, refl, ap, ◌∙◌, subst, subst₂, arith, rules}
+use Rattle.std.proofs.Common.{◌≡◌, ℕ, ◌<◌, ◌≤◌, min, List, ◌++◌, length, take, Ok, Err, Result}
+use Rattle.std.proofs.Common.{vec_items}
+use Rattle.std.proofs.Common.{sym, refl, ap, ◌∙◌, subst, subst₂, rules}
 use Rattle.std.specs.Result.{MatchResult, IsErrAnd}
 use Rattle.std.specs.Slice.Iter.{chunks_rest}
 use Rattle.std.proofs.lemmas.List.{nil_from_length}
@@ -13,6 +14,8 @@ use Rattle.transcript.specs.declared.answers.Refusal.TheVariants.{Faulted}
 use Rattle.transcript.specs.Calls.{Snapshot, OfferAnswer}
 use Rattle.transcript.specs.Snapshots.{snapshot}
 use Rattle.transcript.specs.Uses.{offer, close, Step}
+use Rattle.transcript.specs.Law.{TranscriptionLaw}
+use Rattle.transcript.proofs.Back.{transcription_law}
 use Rattle.transcript.proofs.Whole.{the_law}
 use Rattle.transcript.proofs.Along.{Along, along_none}
 use Rattle.transcript.specs.Carried.{Outcome, refused_by}
@@ -45,13 +48,15 @@ one_answer (Err f) (Err g) e = let same : f ≡ g = cc in ap Err same
 comes : {A B : Type 0} (f : A → Meaning) (h : B → Meaning) {x x' : A} {y y' : B} → Laws (f x')
     → Laws (h y') → (bytes text rest sector more : List ℕ) (s t : Snapshot) (out after : List ℕ)
     (r : OfferAnswer) → x ≡ x' → y ≡ y'
-    → Along (f x') (h y') bytes text rest s → rest ≡ sector ++ more → length sector ≤ 4096
-    → length bytes ≤ 4294967296 → length out ≡ 16396
+    → Along (f x') (h y') bytes text rest s → rest ≡ sector ++ more
+    → length sector ≡ min 4096 (length rest)
+    → 0 < length rest → length bytes ≤ 4294967296 → length out ≡ 16396
     → Step (f x) (h y) s (offer sector out r after) t
     → (m : Result Done FaultAt) × (r ≡ refused_by m)
     × ComesTo (f x') (h y') bytes text after more t m
-comes f h l k bytes text rest sector more s t out after r p q along parts few small room st =
-    comes_to (f _) (h _) l k bytes text rest s t sector more out after along parts few room small r
+comes f h l k bytes text rest sector more s t out after r p q along parts size some small room st =
+    comes_to (f _) (h _) l k bytes text rest s t sector more out after along parts size some room
+    small r
     (subst₂ (λ x y. Step (f x) (h y) s (offer sector out r after) t) p q st)
 
 abbrev Comes : (g : Over) → After-offer g → Result Done FaultAt → Type 0
@@ -73,7 +78,9 @@ at_offer g c =
     c.args.bytes.now (vec_items c.loop-sector.text) _ c.in-Some.sector.now
     (chunks_rest c.next.new.self) (snapshot c.loop-sector.transcript.progress)
     (snapshot c.offer.new.self.progress) c.loop-sector.output c.offer.new.output
-    c.offer.result i.3 i.4 i.6 steps.1.0 (omega (arith, steps.1.1, i.2))
+    c.offer.result i.3 i.4 i.6 steps.1.0
+    (steps.1.1 ∙ ap (λ n. min n (length (chunks_rest c.loop-sector.sector-iterator))) i.2)
+    steps.1.2
     c.if-bytes-gt-LONGEST_SOURCE.false i.5 c.offer.ensures.step
 
 -- the same, as the answer with its fault taken out says
@@ -89,6 +96,24 @@ promised : {A B : Type 0} (f : A → Meaning) (h : B → Meaning) {x x' : A} {y 
 promised f h bytes text count o p q st =
     subst₂ (λ x y. Promised (f x) (h y) bytes text count o) p q st
 
+-- the law at the sets that were passed
+its_law : (g : Over) (x : g.row.S.Denot) (y : g.row.T.Denot)
+    → TranscriptionLaw (set_of g.S.CharacterSet x) (set_of g.T.CharacterSet y)
+its_law g x y =
+    transcription_law _ _ (g.met.S.CharacterSet.lawful x) (g.met.T.CharacterSet.lawful y)
+
+pub returns-then-bytes-gt-LONGEST_SOURCE-clause-its_law :
+    goal.returns-then-bytes-gt-LONGEST_SOURCE-clause-its_law
+returns-then-bytes-gt-LONGEST_SOURCE-clause-its_law g c = its_law g c.args.source c.args.target
+
+pub returns-in_err-extend_from_slice-in-Ok-clause-its_law :
+    goal.returns-in_err-extend_from_slice-in-Ok-clause-its_law
+returns-in_err-extend_from_slice-in-Ok-clause-its_law g c = its_law g c.args.source c.args.target
+
+pub returns-in_err-extend_from_slice-in-Err-clause-its_law :
+    goal.returns-in_err-extend_from_slice-in-Err-clause-its_law
+returns-in_err-extend_from_slice-in-Err-clause-its_law g c = its_law g c.args.source c.args.target
+
 pub loop-sector-init : goal.loop-sector-init
 loop-sector-init g c =
     let all : chunks_rest c.into_iter-sector-iterator.result ≡ c.args.bytes.now = search rules in (
@@ -98,7 +123,8 @@ loop-sector-init g c =
       refl,
       refl,
       refl,
-      rw (c.new-text.ensures.items, all) (along_none _ _ _ _ c.new-transcript.ensures.has_come),
+      rw (c.new-text.ensures.items, all)
+          (along_none _ _ _ _ c.new-transcript.ensures.between.has_come),
     )
 
 pub map_err-requires : goal.map_err-requires
@@ -130,7 +156,7 @@ returns-in-Err g c =
     let m = g.S.CharacterSet in let n = g.T.CharacterSet in
     let x = c.new-transcript.result.converter.sets.source in let y =
     c.new-transcript.result.converter.sets.target in
-    let made = c.new-transcript.ensures.has_sets in
+    let made = c.new-transcript.ensures.between.has_sets in
     let f = c.in-Err.fault in
     let longer : vec_items c.extend_from_slice-in-Err.new.self ≡ vec_items c.loop-sector.text
     ++ take f.done.written c.offer.new.output =
@@ -147,6 +173,7 @@ returns-in-Err g c =
           rw (c.of.ensures.text, c.of.ensures.characters, c.of.ensures.outcome)
           (record { the_transcription = all.0; carried_out = all.1 });
       too_long = c.if-bytes-gt-LONGEST_SOURCE.false;
+      its_law = its_law g c.args.source c.args.target;
       the_law = the_law;
     }
 
@@ -156,7 +183,7 @@ returns g c =
     let x = c.new-transcript.result.converter.sets.source in let y =
     c.new-transcript.result.converter.sets.target in
     let i = c.loop-sector.invariant in
-    let made = c.new-transcript.ensures.has_sets in
+    let made = c.new-transcript.ensures.between.has_sets in
     let at_sets : Step (set_of m x) (set_of n y) (snapshot c.loop-sector.transcript.progress)
     (close c.close.result) (snapshot c.close.new.self.progress) =
     subst₂ (λ x y. Step (set_of m x) (set_of n y) (snapshot c.loop-sector.transcript.progress)
@@ -175,5 +202,6 @@ returns g c =
           rw (c.of-2.ensures.text, c.of-2.ensures.characters, c.of-2.ensures.outcome)
           (record { the_transcription = all.0; carried_out = all.1 });
       too_long = c.if-bytes-gt-LONGEST_SOURCE.false;
+      its_law = its_law g c.args.source c.args.target;
       the_law = the_law;
     }

@@ -1,6 +1,6 @@
 -- At an offer, the call as it is seen at the return computes once the call is rewritten to its
 -- case.
-use Rattle.std.proofs.Common.{◌≡◌, ℕ, List, Ok, Err, Result, sym, refl, subst, rules}
+use Rattle.std.proofs.Common.{◌≡◌, ℕ, List, Ok, Err, Result, sym, refl, ap, subst, rules}
 use Rattle.std.specs.Result.{MatchResult}
 use Rattle.std.proofs.lemmas.Result.{MatchResult-weaker}
 use Rattle.charset.specs.Meaning.{Meaning}
@@ -10,54 +10,76 @@ use Rattle.transcript.specs.declared.answers.Answer.TheVariants as answer
 use Rattle.transcript.specs.declared.answers.Refusal.{Refusal}
 use Rattle.transcript.specs.declared.answers.Refusal.TheVariants.{AlreadyClosed, Standing}
 use Rattle.transcript.specs.declared.answers.State.TheVariants.{Open}
-use Rattle.transcript.specs.Calls.{Snapshot, OfferAnswer, limits, OfferedIf, refused}
+use Rattle.transcript.specs.Calls.{Snapshot, OfferAnswer, CloseAnswer, limits, OfferedIf}
+use Rattle.transcript.specs.Calls.{refused, ClosedOn}
 use Rattle.transcript.specs.Snapshots.{snapshot}
-use Rattle.transcript.specs.Uses.{offer, Step}
-use Rattle.transcript.specs.Called.{offered}
+use Rattle.transcript.specs.Uses.{start, offer, status, Step}
+use Rattle.transcript.specs.Called.{offered, closed}
+use Rattle.transcript.proofs.Stepping.{steps, closes, offers}
 use Rattle.transcript.proofs.calls.Transcript.call.Goals as goal
 
+pub returns-in_default-Start : goal.returns-in_default-Start
+returns-in_default-Start g c =
+    rw c.in_default-Start.is-1 (record {
+      event = start;
+      is_event = (refl, refl);
+      steps = steps _ _ start (search rules) (search rules);
+    })
+
+pub returns-in_default-Status : goal.returns-in_default-Status
+returns-in_default-Status g c =
+    rw c.in_default-Status.is-1 (record {
+      event = status c.status.result;
+      is_event = (c.status.result, refl, refl);
+      steps = steps _ _ (status c.status.result) (search rules) (c.status.ensures, refl);
+    })
+
 pub returns-in-Closed-default : goal.returns-in-Closed-default
-returns-in-Closed-default g c = record {
-  same_sets = search rules;
-  called =
-      rw (c.in-Closed-default.is-1, c.in-Closed-default.is-0)
-      (Err AlreadyClosed, (refl, search rules, refl), refl);
-}
+returns-in-Closed-default g c =
+    rw c.in-Closed-default.is-1 (offers _ _ _ _ _ (Err AlreadyClosed) _ refl (search rules)
+    (rw c.in-Closed-default.is-0 (refl, search rules, refl)))
 
 pub returns-in-Closed-default-2 : goal.returns-in-Closed-default-2
-returns-in-Closed-default-2 g c = record {
-  same_sets = search rules;
-  called =
-      rw (c.in-Closed-default.is-1, c.in-Closed-default.is-0) (Err AlreadyClosed, (refl, refl), refl);
-}
+returns-in-Closed-default-2 g c =
+    rw c.in-Closed-default.is-1 (closes _ _ _ (Err AlreadyClosed) _ refl (search rules)
+    (rw c.in-Closed-default.is-0 (refl, refl)))
 
 pub returns-in-Faulted-Offer : goal.returns-in-Faulted-Offer
-returns-in-Faulted-Offer g c = record {
-  same_sets = search rules;
-  called =
-      rw (c.in-Faulted-Offer.is-1, c.in-Faulted-Offer.is-0)
-      (Err (Standing c.in-Faulted-Offer.fault), (refl, refl, refl), refl);
-}
+returns-in-Faulted-Offer g c =
+    rw c.in-Faulted-Offer.is-1 (offers _ _ _ _ _ (Err (Standing c.in-Faulted-Offer.fault)) _ refl
+    (search rules) (rw c.in-Faulted-Offer.is-0 (refl, refl, refl)))
 
 pub returns-in-Faulted-Close : goal.returns-in-Faulted-Close
-returns-in-Faulted-Close g c = record {
-  same_sets = search rules;
-  called =
-      rw (c.in-Faulted-Close.is-1, c.in-Faulted-Close.is-0)
-      (Err (Standing c.in-Faulted-Close.fault), (refl, refl), refl);
-}
+returns-in-Faulted-Close g c =
+    rw c.in-Faulted-Close.is-1 (closes _ _ _ (Err (Standing c.in-Faulted-Close.fault)) _ refl
+    (search rules) (rw c.in-Faulted-Close.is-0 (refl, refl)))
+
+-- the closing of an open transcript
+closed_open : (s t : Snapshot) (r : CloseAnswer) → s.state ≡ Open → ClosedOn Open s.held s r t
+    → ClosedOn s.state s.held s r t
+closed_open s t r e h = subst (λ z. ClosedOn z s.held s r t) (sym e) h
+
+pub returns-in_ok-finish-in-Open-Close : goal.returns-in_ok-finish-in-Open-Close
+returns-in_ok-finish-in-Open-Close g c =
+    rw c.in-Open-Close.is-1 (closes _ _ _ c.finish.result _
+    (sym (ap closed c.in_ok-finish-in-Open-Close.was)) (search rules)
+    (closed_open (snapshot c.args.self.now.progress) (snapshot c.finish.new.self) c.finish.result
+    c.in-Open-Close.is-0 c.finish.ensures))
+
+pub returns-in_err-finish-in-Open-Close : goal.returns-in_err-finish-in-Open-Close
+returns-in_err-finish-in-Open-Close g c =
+    rw c.in-Open-Close.is-1 (closes _ _ _ c.finish.result _
+    (rw c.in_err-finish-in-Open-Close.was (search rules)) (search rules)
+    (closed_open (snapshot c.args.self.now.progress) (snapshot c.finish.new.self) c.finish.result
+    c.in-Open-Close.is-0 c.finish.ensures))
 
 -- the work of an open transcript is the step of an offer
 offered_open : (S T : Meaning) (s t : Snapshot) (i o q p : List ℕ) (a : OfferAnswer)
-    (r : Result Answer Refusal) → s.state ≡ Open → OfferedIf (limits s.taken i q) S T s i q a p t
-    → q ≡ o → r ≡ offered a
-    → (b : OfferAnswer) × Step S T s (offer i o b p) t × (r ≡ offered b)
-offered_open S T s t i o q p a r e h f k = (
-  a,
-  subst (λ z. OfferedIf (refused z s.taken i o) S T s i o a p t) (sym e)
-      (subst (λ z. OfferedIf (limits s.taken i z) S T s i z a p t) f h),
-  k,
-)
+    → s.state ≡ Open → OfferedIf (limits s.taken i q) S T s i q a p t
+    → q ≡ o → Step S T s (offer i o a p) t
+offered_open S T s t i o q p a e h f =
+    subst (λ z. OfferedIf (refused z s.taken i o) S T s i o a p t) (sym e)
+    (subst (λ z. OfferedIf (limits s.taken i z) S T s i z a p t) f h)
 
 -- what a call that succeeds makes of the answer of an offer
 made : (a : OfferAnswer) (r : Result Answer Refusal)
@@ -66,16 +88,13 @@ made (Ok d) r h = h
 made (Err q) r h = h
 
 pub returns-in-Open-Offer : goal.returns-in-Open-Offer
-returns-in-Open-Offer g c = record {
-  same_sets = search rules;
-  called =
-      let m = c.args.self.now in
-      let x = g.S.CharacterSet in let y = g.T.CharacterSet in
-      rw c.in-Open-Offer.is-1
-      (offered_open (set_of x m.converter.sets.source) (set_of y m.converter.sets.target)
-      (snapshot m.progress) (snapshot c.feed.new.self.progress) c.in-Open-Offer.sector.now
-      c.in-Open-Offer.output.now _ c.feed.new.output c.feed.result c.map.result
-      c.in-Open-Offer.is-0 c.feed.ensures.offered (search rules)
-      (made c.feed.result c.map.result (MatchResult-weaker c.feed.result c.map.ensures.cases
-      (λ x p. search rules) (λ y p. p))));
-}
+returns-in-Open-Offer g c =
+    let m = c.args.self.now in
+    let x = g.S.CharacterSet in let y = g.T.CharacterSet in
+    rw c.in-Open-Offer.is-1 (offers _ _ _ _ _ c.feed.result _
+    (made c.feed.result c.map.result (MatchResult-weaker c.feed.result c.map.ensures.cases
+    (λ x p. search rules) (λ y p. p))) (search rules)
+    (offered_open (set_of x m.converter.sets.source) (set_of y m.converter.sets.target)
+    (snapshot m.progress) (snapshot c.feed.new.self.progress) c.in-Open-Offer.sector.now
+    c.in-Open-Offer.output.now _ c.feed.new.output c.feed.result c.in-Open-Offer.is-0
+    c.feed.ensures.offered (search rules)))

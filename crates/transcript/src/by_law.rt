@@ -1,0 +1,25 @@
+// An offer with the law of transcription, for the sets that it is made between.
+ghost use Rattle.transcript.specs.Law.{TranscriptionLaw};
+ghost use Rattle.transcript.specs.Stacks.{TheLaw};
+ghost use Rattle.transcript.specs.Transcripts.{source_set, target_set, Steps};
+ghost use Rattle.transcript.specs.Uses.{offer};
+
+use crate::answers::{Done, Refusal};
+use crate::calls::Transcript;
+use charset::CharacterSet;
+
+// The offer of a transcript: a call more of every use that led to it, and its sets keep the law.
+// Nothing writes the sector, since it is lent to be read alone.
+#[tactic(auto, using(crate::proofs::Whole::the_law))]
+pub fn offer_by_law<S: CharacterSet, T: CharacterSet>(
+    transcript: &mut Transcript<S, T>,
+    sector: &[u8],
+    output: &mut [u8],
+) -> Result<Done, Refusal>
+    ensures steps { Steps transcript.old
+        (offer sector.now output.old result output.new) transcript.new }
+    ensures its_law { TranscriptionLaw (source_set transcript.old) (target_set transcript.old) }
+    ensures the_law { TheLaw }
+{
+    transcript.offer(sector, output)
+}
