@@ -13,15 +13,15 @@ use Rattle.sets.specs.Laws.Iso6937.{iso6937_laws}
 use Rattle.sets.specs.Laws.Utf8.{utf8_laws}
 use Rattle.layers.specs.Depth.{own, up}
 use Rattle.layers.specs.Laws.LayersKeep.{shift_laws, parity_laws}
-use Rattle.examples.specs.SetsAndLayers.{WorkedExamples}
+use Rattle.examples.specs.SetsAndLayers.{SetExamples}
 
 pub by_reading : {m : Meaning} → Laws m → (s : List ℕ) (r : ReadAnswer) → reading m s ≡ r
     → Reads m s r
 by_reading l s r e = rw (← e) (reading_reads l s)
 
-pub worked_examples : WorkedExamples
+pub set_examples : SetExamples
 unfolding reading supplementary diacritics first_from ones
-worked_examples = record {
+set_examples = record {
   e_acute = by_reading iso6937_laws (0xc2 ∷ 0x65 ∷ []) (Ok (Found 0xe9 2)) refl;
   acute_open = by_reading iso6937_laws (0xc2 ∷ []) (Ok Open) refl;
   acute_stop = by_reading iso6937_laws (0xc2 ∷ 0x2e ∷ []) (Err (refusal NoPair)) refl;

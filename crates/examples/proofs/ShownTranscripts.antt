@@ -19,7 +19,7 @@ use Rattle.transcript.specs.declared.answers.State.TheVariants as state
 use Rattle.transcript.specs.Calls.{done, fault_at}
 use Rattle.transcript.specs.Uses.{start, offer, Use, made, call}
 use Rattle.examples.proofs.ShownSets.{by_reading}
-use Rattle.examples.proofs.ShownSets.{worked_examples as of_sets_and_layers}
+use Rattle.examples.proofs.ShownSets.{set_examples}
 use Rattle.examples.specs.Transcripts.{WorkedExamples}
 
 -- ISO/IEC 6937 into ISO/IEC 8859-16
@@ -48,7 +48,7 @@ acute_offered = call made (record {
   end = Ok pause.Open;
   reaches =
       reaching (0xc2 ∷ []) 1 (Ok pause.Open) [] [] [] (0xc2 ∷ []) refl refl refl (omega arith)
-      of_sets_and_layers.acute_open;
+      set_examples.acute_open;
   answer = refl;
   left = refl;
   next = refl;
@@ -101,7 +101,7 @@ pub worked_examples : WorkedExamples
 worked_examples = record {
   transcript_limits = (refl, refl, refl);
   roll_limits = (refl, refl, refl, refl, refl);
-  of_sets_and_layers = of_sets_and_layers;
+  of_sets_and_layers = set_examples;
   acute_held = acute_offered;
   letter_next = letter_offered;
   no_cedilla = cedilla_offered;

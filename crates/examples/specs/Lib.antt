@@ -1,4 +1,4 @@
 pub mod Odd
-pub mod OddLaws
+pub mod Laws
 pub mod SetsAndLayers
 pub mod Transcripts

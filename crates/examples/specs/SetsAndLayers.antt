@@ -6,7 +6,7 @@ use Rattle.sets.specs.Iso6937.{iso6937}
 use Rattle.sets.specs.Utf8.{utf8}
 use Rattle.layers.specs.Layers.{parity, shift}
 
-pub record WorkedExamples : Type 0 where
+pub record SetExamples : Type 0 where
   -- ISO/IEC 6937: e with acute, an acute alone, an acute before a full stop, a position not in use,
   -- capital eth
   pub e_acute : Reads iso6937 (0xc2 ∷ 0x65 ∷ []) (Ok (Found 0xe9 2))

@@ -13,7 +13,7 @@ use Rattle.report.specs.declared.TheConstants.{LONGEST_INPUT}
 use Rattle.transcript.specs.Told.{told}
 use Rattle.transcript.specs.Calls.{done, fault_at}
 use Rattle.transcript.specs.Uses.{start, offer, close, Use}
-use Rattle.examples.specs.SetsAndLayers.{WorkedExamples as OfSetsAndLayers}
+use Rattle.examples.specs.SetsAndLayers.{SetExamples}
 
 pub record WorkedExamples : Type 0 where
   -- how many bytes a sector, an output and a source may have; how many a roll may have, how many
@@ -22,7 +22,7 @@ pub record WorkedExamples : Type 0 where
       (LONGEST_SECTOR ≡ 4096) × (LONGEST_OUTPUT ≡ 65536) × (LONGEST_SOURCE ≡ 4294967296)
   pub roll_limits : (SMALLEST_ROLL ≡ 16) × (LARGEST_ROLL ≡ 1048576) × (MOST_PAGES ≡ 1024)
       × (LAST_FORM ≡ 7) × (LONGEST_INPUT ≡ 65536)
-  pub of_sets_and_layers : OfSetsAndLayers
+  pub of_sets_and_layers : SetExamples
   -- ISO/IEC 6937 into ISO/IEC 8859-16: an acute in one sector is held, and with its letter in the
   -- next it is written
   pub acute_held : Use iso6937 (single_byte iso8859_16)

@@ -2,7 +2,7 @@
 ghost use Rattle.std.specs.Prelude.{◌≡◌};
 ghost use Rattle.examples.specs.Odd.{odd_single, odd_pair, odd_opens, odd_codings};
 ghost use Rattle.examples.specs.Odd.{odd_openings, odd_causes};
-ghost use Rattle.examples.specs.OddLaws.{odd_laws};
+ghost use Rattle.examples.specs.Laws.Odd.{odd_laws};
 
 use charset::{CharacterSet, Coding, Reading, SetRefusal};
 

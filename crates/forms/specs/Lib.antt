@@ -1,4 +1,4 @@
 pub mod FormSets
 pub mod PageControls
 pub mod Chosen
-pub mod ChosenLaws
+pub mod Laws

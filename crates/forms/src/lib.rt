@@ -5,7 +5,7 @@ ghost use Rattle.std.specs.Prelude.{◌≡◌, MatchResult};
 ghost use Rattle.roll.specs.declared.page.Form.TheVariants.{Basic};
 ghost use Rattle.forms.specs.FormSets.{form_set};
 ghost use Rattle.forms.specs.Chosen.{meaning_of};
-ghost use Rattle.forms.specs.ChosenLaws.{chosen_laws};
+ghost use Rattle.forms.specs.Laws.Chosen.{chosen_laws};
 
 use charset::{CharacterSet, Coding, Reading, SetRefusal};
 use layers::{

@@ -66,7 +66,7 @@ module _ {S T : Type 0} {g : Ghosts S} {h : Ghosts T} where
     pub steps : Steps old event new
 
   -- an offer to an open transcript
-  pub record Feeds (old : Transcript S T g h) (sector out : List ℕ) (r : OfferAnswer)
+  pub record OffersWhenOpen (old : Transcript S T g h) (sector out : List ℕ) (r : OfferAnswer)
       (after : List ℕ) (new : Transcript S T g h) : Type 0 where
     pub same_sets : SameSets old new
     pub offered : OfferedIf (limits old.progress.taken sector out)

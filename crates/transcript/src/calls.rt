@@ -29,7 +29,7 @@ pub enum Call<'a> {
 
 impl<S: CharacterSet, T: CharacterSet> Transcript<S, T> {
     ghost use Rattle.transcript.specs.Transcripts.{source_set, target_set, come_to, Between};
-    ghost use Rattle.transcript.specs.Transcripts.{GoesOn, Steps, Calls, Feeds};
+    ghost use Rattle.transcript.specs.Transcripts.{GoesOn, Steps, Calls, OffersWhenOpen};
 
     // A transcript that is started.
     pub fn new(source: S, target: T) -> Transcript<S, T>
@@ -45,7 +45,7 @@ impl<S: CharacterSet, T: CharacterSet> Transcript<S, T> {
 
     // The work of an offer to an open transcript.
     fn feed(&mut self, sector: &[u8], output: &mut [u8]) -> Result<Done, Refusal>
-        ensures { Feeds self.old sector.now output.old result output.new self.new }
+        ensures { OffersWhenOpen self.old sector.now output.old result output.new self.new }
     {
         self.progress.within_limits(sector, output)?;
         let run = self.converter.convert(self.progress.held, sector, output);
