@@ -1,8 +1,7 @@
 -- One sector more: the text goes on, or ends in a fault, and the output is never too small.
 use Rattle.std.proofs.Common.{◌≡◌, ℕ, ◌+◌, ◌<◌, ◌≤◌, min, ◌⊎◌, List, ◌∷◌, ◌++◌, length, take, Some}
-use Rattle.std.proofs.Common.{None, Ok}
-use Rattle.std.proofs.Common.{Err, Result, sym, refl, ap, ◌∙◌, subst, inl, inr, append_assoc, arith}
-use Rattle.std.proofs.Common.{length-append, length-take}
+use Rattle.std.proofs.Common.{None, Ok, Err, Result, sym, refl, ap, ◌∙◌, subst, inl, inr}
+use Rattle.std.proofs.Common.{append_assoc, arith, length-append, length-take}
 use lib.Seq.{take-append_seam, take-length}
 use Rattle.std.proofs.lemmas.List.{take_min}
 use Rattle.charset.specs.Meaning.{Meaning, Laws}

@@ -1,7 +1,6 @@
 -- A step between the same sets is a call more of every use.
 use Rattle.std.proofs.Common.{◌≡◌, ℕ, List, ◌∷◌, drop, Some, None, Option, Result, ap, ◌∙◌, refl}
-use Rattle.std.proofs.Common.{sym}
-use Rattle.std.proofs.Common.{length, subst₂}
+use Rattle.std.proofs.Common.{sym, length, subst₂}
 use Rattle.std.specs.Borrow.{Bor, MutBor}
 use lib.Seq.{drop-append_seam}
 use Rattle.charset.specs.declared.CharacterSet.{Ghosts}
@@ -16,8 +15,7 @@ use Rattle.transcript.specs.Calls.{OfferedIf}
 use Rattle.transcript.specs.Uses.{Event, start, offer, close, status, Step, Use, wrote}
 use Rattle.transcript.specs.Uses as uses
 use Rattle.transcript.specs.Uses.{OutputStays}
-use Rattle.transcript.specs.Transcripts.{source_set, target_set, come_to, SameSets, Steps}
-use Rattle.transcript.specs.Transcripts.{Calls}
+use Rattle.transcript.specs.Transcripts.{source_set, target_set, come_to, SameSets, Steps, Calls}
 use Rattle.transcript.specs.Called.{Returned, output_after, offered, closed}
 use Rattle.transcript.proofs.Keeping.{answer_took}
 

@@ -3,9 +3,8 @@ use Rattle.std.specs.Prelude.{◌≡◌, ℕ, List, [], ◌∷◌, ◌++◌, tak
 use Rattle.charset.specs.Meaning.{Meaning}
 use Rattle.transcript.specs.declared.answers.Status.{Status}
 use Rattle.transcript.specs.declared.answers.Refusal.TheVariants.{SectorTooLong, OutputTooLong}
-use Rattle.transcript.specs.declared.answers.Refusal.TheVariants.{SourceTooLong}
-use Rattle.transcript.specs.declared.answers.Refusal.TheVariants.{Standing, AlreadyClosed, Faulted}
-use Rattle.transcript.specs.declared.answers.Refusal.TheVariants.{Full}
+use Rattle.transcript.specs.declared.answers.Refusal.TheVariants.{SourceTooLong, Standing}
+use Rattle.transcript.specs.declared.answers.Refusal.TheVariants.{AlreadyClosed, Faulted, Full}
 use Rattle.transcript.specs.Calls.{Snapshot, fresh, OfferAnswer, CloseAnswer, Offered, ClosedOn}
 use Rattle.transcript.specs.Calls.{status_of}
 

@@ -1,6 +1,5 @@
 use Rattle.std.proofs.Common.{◌≡◌, ℕ, ◌<◌, ◌≤◌, min, List, ◌++◌, length, take, Ok, Err, Result}
-use Rattle.std.proofs.Common.{vec_items}
-use Rattle.std.proofs.Common.{sym, refl, ap, ◌∙◌, subst, subst₂, rules}
+use Rattle.std.proofs.Common.{vec_items, sym, refl, ap, ◌∙◌, subst, subst₂, rules}
 use Rattle.std.specs.Result.{MatchResult, IsErrAnd}
 use Rattle.std.specs.Slice.Iter.{chunks_rest}
 use Rattle.std.proofs.lemmas.List.{nil_from_length}

@@ -10,8 +10,8 @@ use Rattle.transcript.specs.declared.answers.Answer.TheVariants as answer
 use Rattle.transcript.specs.declared.answers.Refusal.{Refusal}
 use Rattle.transcript.specs.declared.answers.Refusal.TheVariants.{AlreadyClosed, Standing}
 use Rattle.transcript.specs.declared.answers.State.TheVariants.{Open}
-use Rattle.transcript.specs.Calls.{Snapshot, OfferAnswer, CloseAnswer, limits, OfferedIf}
-use Rattle.transcript.specs.Calls.{refused, ClosedOn}
+use Rattle.transcript.specs.Calls.{Snapshot, OfferAnswer, CloseAnswer, limits, OfferedIf, refused}
+use Rattle.transcript.specs.Calls.{ClosedOn}
 use Rattle.transcript.specs.Snapshots.{snapshot}
 use Rattle.transcript.specs.Uses.{start, offer, status, Step}
 use Rattle.transcript.specs.Called.{offered, closed}
