@@ -100,6 +100,7 @@ cedilla_offered = call made (record {
 pub worked_examples : WorkedExamples
 worked_examples = record {
   transcript_limits = (refl, refl, refl);
+  list_limits = (refl, refl);
   roll_limits = (refl, refl, refl, refl, refl);
   of_sets_and_layers = set_examples;
   acute_held = acute_offered;

@@ -8,6 +8,7 @@ use Rattle.transcript.specs.declared.answers.Refusal.TheVariants.{Faulted}
 use Rattle.transcript.specs.declared.answers.State.TheVariants.{Open}
 use Rattle.transcript.specs.declared.answers.State.TheVariants as state
 use Rattle.transcript.specs.declared.TheConstants.{LONGEST_SECTOR, LONGEST_OUTPUT, LONGEST_SOURCE}
+use Rattle.layers.specs.declared.list.TheConstants.{MOST_CHARACTERS, LAST_CHARACTER}
 use Rattle.roll.specs.declared.TheConstants.{SMALLEST_ROLL, LARGEST_ROLL, MOST_PAGES, LAST_FORM}
 use Rattle.report.specs.declared.TheConstants.{LONGEST_INPUT}
 use Rattle.transcript.specs.Told.{told}
@@ -16,10 +17,12 @@ use Rattle.transcript.specs.Uses.{start, offer, close, Use}
 use Rattle.examples.specs.SetsAndLayers.{SetExamples}
 
 pub record WorkedExamples : Type 0 where
-  -- how many bytes a sector, an output and a source may have; how many a roll may have, how many
-  -- pages, and which forms; and how many bytes of a roll are read
+  -- how many bytes a sector, an output and a source may have
   pub transcript_limits :
       (LONGEST_SECTOR ≡ 4096) × (LONGEST_OUTPUT ≡ 65536) × (LONGEST_SOURCE ≡ 4294967296)
+  -- how many characters a list may have, and up to which
+  pub list_limits : (MOST_CHARACTERS ≡ 512) × (LAST_CHARACTER ≡ 0x10ffff)
+  -- how many bytes and pages a roll may have, its last form, and how many bytes of it are read
   pub roll_limits : (SMALLEST_ROLL ≡ 16) × (LARGEST_ROLL ≡ 1048576) × (MOST_PAGES ≡ 1024)
       × (LAST_FORM ≡ 7) × (LONGEST_INPUT ≡ 65536)
   pub of_sets_and_layers : SetExamples

@@ -2,6 +2,7 @@
 use Rattle.std.specs.Prelude.{◌≡◌, ℕ, ◌-◌, ◌<◌, ◌≤◌, Bool, true, ◌&&◌, ◌||◌, List, ◌∷◌, ◌++◌}
 use Rattle.std.specs.Prelude.{length, ◌==◌, nat_le, nat_lt, slice_index}
 use Rattle.std.specs.List.{list_any, range_with_len}
+use Rattle.layers.specs.declared.list.TheConstants.{MOST_CHARACTERS, LAST_CHARACTER}
 
 -- the characters that every list holds: SPACE ' ( ) + , - . / then 0 to 9, : = ? and A to Z, a to z
 unfoldable pub required : List ℕ
@@ -17,7 +18,7 @@ on_list xs c = list_any (λ x. x == c) xs
 -- whether the number at i is at most U+10FFFF and above the one before it
 abbrev pub rises_at : List ℕ → ℕ → Bool
 rises_at xs i =
-    nat_le (slice_index xs i) 0x10ffff &&
+    nat_le (slice_index xs i) LAST_CHARACTER &&
     (i == 0 || nat_lt (slice_index xs (i - 1)) (slice_index xs i))
 
 abbrev pub Rising : List ℕ → Type 0
@@ -29,4 +30,4 @@ Complete xs = (c : ℕ) → on_list required c ≡ true → on_list xs c ≡ tru
 
 -- what every list keeps: at most 512 characters, increasing, the required ones among them
 abbrev pub Sound : List ℕ → Type 0
-Sound xs = (length xs ≤ 512) × Rising xs × Complete xs
+Sound xs = (length xs ≤ MOST_CHARACTERS) × Rising xs × Complete xs

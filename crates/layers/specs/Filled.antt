@@ -4,6 +4,7 @@ use Rattle.charset.specs.Meaning.{Codings}
 use Rattle.layers.specs.declared.list.ListRefusal.{ListRefusal}
 use Rattle.layers.specs.CharacterList.{required, on_list, rises_at, Rising, Sound}
 use Rattle.layers.specs.Refusals.{Told, list_told}
+use Rattle.layers.specs.declared.list.TheConstants.{MOST_CHARACTERS}
 
 -- i is the first index at which the numbers do not rise
 pub record FirstNotRising (xs : List ℕ) (i : ℕ) : Type 0 where
@@ -34,15 +35,17 @@ pub record Acceptable (k : Codings) (xs : List ℕ) : Type 0 where
 
 -- what each refusal says of the numbers, by its number and value
 abbrev pub HasTooMany : List ℕ → Told → Type 0
-HasTooMany xs t = (t ≡ record { number = 10; value = None }) × (512 < length xs)
+HasTooMany xs t = (t ≡ record { number = 10; value = None }) × (MOST_CHARACTERS < length xs)
 
 abbrev pub IsNotIncreasing : List ℕ → Told → Type 0
 IsNotIncreasing xs t =
-    (i : ℕ) × (t ≡ record { number = 11; value = Some i }) × (length xs ≤ 512) × FirstNotRising xs i
+    (i : ℕ) × (t ≡ record { number = 11; value = Some i }) × (length xs ≤ MOST_CHARACTERS)
+    × FirstNotRising xs i
 
 abbrev pub Lacking : List ℕ → Told → Type 0
 Lacking xs t =
-    (c : ℕ) × (t ≡ record { number = 12; value = Some c }) × (length xs ≤ 512) × Rising xs
+    (c : ℕ) × (t ≡ record { number = 12; value = Some c }) × (length xs ≤ MOST_CHARACTERS)
+    × Rising xs
     × FirstMissing xs c
 
 abbrev pub WithoutCoding : Codings → List ℕ → Told → Type 0

@@ -14,7 +14,7 @@ mod subrepertoire;
 pub use cause::Cause;
 pub use controls::Controls;
 pub use forms::{EvenParity, SingleShift};
-pub use list::{CharacterList, ListRefusal};
+pub use list::{CharacterList, LAST_CHARACTER, ListRefusal, MOST_CHARACTERS};
 pub use recoded::Recoded;
 pub use recoding::{ByteForm, Move, WrittenByte};
 pub use stack::{Parity, Shift, with_controls, with_list, with_parity, with_shift};

@@ -11,10 +11,10 @@ use std::alloc::{AllocError, Global};
 use std::marker::Model;
 
 // How many characters a list may have.
-const MOST_CHARACTERS: usize = 512;
+pub const MOST_CHARACTERS: usize = 512;
 
 // The last code point.
-const LAST_CHARACTER: u32 = 0x10FFFF;
+pub const LAST_CHARACTER: u32 = 0x10FFFF;
 
 // The characters that every list holds: SPACE, A to Z, a to z, 0 to 9 and ' ( ) + , - . / : = ?
 #[rattlefmt::skip]
