@@ -84,7 +84,8 @@ module _ (k : FormTranscript) (S T : Meaning) (from : S ≡ form_set k.source) (
     pub offer_kept : (sector out : List ℕ) (r : OfferAnswer) (after : List ℕ)
         → Offered S T s sector out r after t
         → CanBeKept (record { source = k.source; target = k.target; progress = p })
-    offer_kept sector out r after w = after_it (after_offer S T laws s t before sector out r after w)
+    offer_kept sector out r after w =
+        after_it (after_offer S T laws s t before sector out r after w)
 
     pub close_kept : (r : CloseAnswer) → ClosedOn s.state s.held s r t
         → CanBeKept (record { source = k.source; target = k.target; progress = p })

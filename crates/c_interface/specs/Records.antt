@@ -57,8 +57,8 @@ record_of f g s =
       bytes = padded s.held;
     }
 
--- a fault that a transcript can meet, by an offer or a closing that did that: a character is at most
--- U+10FFFF, and a closing, which alone finds a source unfinished, takes and writes nothing
+-- a fault that a transcript can meet, by an offer or a closing that did that: a character is at
+-- most U+10FFFF, and a closing, which alone finds a source unfinished, takes and writes nothing
 abbrev pub CanMeet : Fault → Done → Type 0
 CanMeet (Unread q) d = Unit {0}
 CanMeet (Unwritten c) d = c ≤ 0x10ffff

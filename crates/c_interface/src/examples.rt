@@ -253,7 +253,7 @@ fn numbers_of_no_transcript(rt: HostRuntime) -> Result<(), Fail> {
         },
     ];
     for kept in wrong {
-        keeps_none(&rt, rt.alloc(), kept);
+        assert!(rt; keeps_none(rt.alloc(), kept));
     }
     let mut answer = Told::default();
     let mut output = [7u8; 2];
@@ -290,7 +290,7 @@ fn held_bytes_that_open_nothing(rt: HostRuntime) -> Result<(), Fail> {
                 bytes,
                 ..fresh
             };
-            keeps_none(&rt, rt.alloc(), kept);
+            assert!(rt; keeps_none(rt.alloc(), kept));
         }
     }
     Ok(())
@@ -319,8 +319,8 @@ fn held_bytes_of_the_listed_form(rt: HostRuntime) -> Result<(), Fail> {
     Ok(())
 }
 
-// Faults that no transcript meets: a closing that took or wrote something, and a character beyond
-// U+10FFFF.
+// Faults that no transcript meets: a closing that took or wrote something, a character beyond
+// U+10FFFF, and what is no fault.
 #[test]
 fn faults_that_cannot_stand(rt: HostRuntime) -> Result<(), Fail> {
     let fresh = opened(ISO6937, LATIN10);
@@ -354,7 +354,7 @@ fn faults_that_cannot_stand(rt: HostRuntime) -> Result<(), Fail> {
             state: 1,
             ..fresh.status
         };
-        keeps_none(&rt, rt.alloc(), TranscriptRecord { status, ..fresh });
+        assert!(rt; keeps_none(rt.alloc(), TranscriptRecord { status, ..fresh }));
     }
     for fault in [unfinished, unwritten] {
         let status = StatusRecord {

@@ -1,6 +1,7 @@
 // A transcript between two forms of text, as numbers.
 ghost use Rattle.std.specs.Prelude.{◌≡◌, MatchOption};
-ghost use Rattle.c_interface.specs.Records.{fault_record, status_record, HasFault, HasState, HasStatus};
+ghost use Rattle.c_interface.specs.Records.{fault_record, status_record, HasFault, HasState};
+ghost use Rattle.c_interface.specs.Records.{HasStatus};
 ghost use Rattle.c_interface.specs.Records.{NoFault, NoState, NoStatus};
 
 use charset::SetRefusal;

@@ -3,7 +3,8 @@ use Rattle.charset.specs.declared.Reading.TheVariants.{Open}
 use Rattle.charset.proofs.FrontLemmas.{one_reading}
 use Rattle.forms.specs.ChosenLaws.{chosen_laws}
 use Rattle.forms.proofs.is_opening.Goals as goal
-use Rattle.forms.proofs.is_opening.Goals.{in_default-via-in-Ok+in_default, in_default-via-in_default}
+use Rattle.forms.proofs.is_opening.Goals.{in_default-via-in-Ok+in_default}
+use Rattle.forms.proofs.is_opening.Goals.{in_default-via-in_default}
 
 not_true : (b : Bool) → (b ≡ true → ⊥) → false ≡ b
 not_true true n = absurd (n refl)
