@@ -4,7 +4,8 @@
  * copied or stored and gone on with later.
  *
  * Each call returns true where it succeeds. Where it returns false, answer->number says why, and the manual page, finetalc(3), lists the
- * numbers. A record is changed by the calls alone: numbers that do not fit together are refused with 21, but not every change is noticed.
+ * numbers. A record is to be changed by the calls alone. One whose numbers cannot be those of a transcript is refused with 102; any other is
+ * taken as its numbers say, so not every change by something else is noticed.
  * All pointers must be to valid memory, and none may be null, even where the length is 0. What one call is given must not overlap. */
 #ifndef FINETALC_H
 #define FINETALC_H
@@ -63,23 +64,23 @@ struct finetalc_transcript {
     uint8_t held_bytes[4]; /* with 0 behind them */
 };
 
-/* Opens a transcript from one form into another. Refused: 20, no form has that number. */
+/* Opens a transcript from one form into another. Refused: 101, no form has that number. */
 bool finetalc_open(uint32_t source, uint32_t target, struct finetalc_transcript *transcript,
                    struct finetalc_answer *answer);
 
-/* Starts it again, and forgets all before. Refused: 21. */
+/* Starts it again, and forgets all before. Refused: 102. */
 bool finetalc_start(struct finetalc_transcript *transcript, struct finetalc_answer *answer);
 
 /* Reads the held bytes and then the sector from the front, and writes each character behind the one before.
- * Refused: 1 to 8, 21, and 0 where memory is wanting (form 7 alone wants some). After 8 the rest of the sector may be offered again, with
+ * Refused: 1 to 8, 102, and 0 where memory is wanting (form 7 alone wants some). After 8 the rest of the sector may be offered again, with
  * another output. After 4 nothing was taken or written. What was not written of the output stays as it was. */
 bool finetalc_offer(struct finetalc_transcript *transcript, const uint8_t *sector, size_t sector_length,
                     uint8_t *output, size_t output_length, struct finetalc_answer *answer);
 
-/* Ends it. Refused: 4, 5, 9 where the source ends in bytes that wait for more, 21, and 0 as above. */
+/* Ends it. Refused: 4, 5, 9 where the source ends in bytes that wait for more, 102, and 0 as above. */
 bool finetalc_close(struct finetalc_transcript *transcript, struct finetalc_answer *answer);
 
-/* Tells what it has come to, which also stands in transcript->progress. Refused: 21. */
+/* Tells what it has come to, which also stands in transcript->progress. Refused: 102. */
 bool finetalc_status(const struct finetalc_transcript *transcript, struct finetalc_progress *progress,
                      struct finetalc_answer *answer);
 

@@ -3,6 +3,7 @@ use Rattle.std.specs.Prelude.{◌≡◌, ℕ, ◌⊎◌, Bool, true, false, List
 use Rattle.transcript.specs.declared.answers.Done.{Done}
 use Rattle.transcript.specs.declared.answers.Told.{Told}
 use Rattle.transcript.specs.Told.{with_done}
+use Rattle.transcript.specs.Law.{TranscriptionLaw}
 use Rattle.roll.specs.declared.page.Form.{Form}
 use Rattle.roll.specs.Forms.{form_number}
 use Rattle.forms.specs.FormSets.{form_set}
@@ -83,6 +84,12 @@ pub record RecordTells (r : TranscriptRecord) (status : StatusRecord) : Type 0 w
   pub come : Snapshot
   pub kept : Keeps r source target come
   pub told : status ≡ status_record (status_of come)
+
+-- the sets of the transcript that the record keeps have the law of transcription
+abbrev pub RecordLaw : TranscriptRecord → Type 0
+RecordLaw r =
+    (source target : Form) (come : Snapshot) → Keeps r source target come
+    → TranscriptionLaw (form_set source) (form_set target)
 
 -- ---- the calls
 

@@ -7,6 +7,6 @@ use Rattle.c_interface.specs.declared.refusal.CallRefusal.TheVariants.{NoTranscr
 
 abbrev pub call_told : CallRefusal → Told
 call_told NoMemory = alone 0
-call_told UnknownForm = alone 20
-call_told NoTranscript = alone 21
+call_told UnknownForm = alone 101
+call_told NoTranscript = alone 102
 call_told (Refused q) = told q

@@ -3,6 +3,7 @@ use crate::{
     StatusRecord, TranscriptRecord, finetalc_close, finetalc_offer, finetalc_open, finetalc_start,
     finetalc_status,
 };
+use std::alloc::Global;
 use std::test::*;
 use transcript::Told;
 
@@ -168,10 +169,33 @@ fn no_form_of_that_number(rt: HostRuntime) -> Result<(), Fail> {
         (ISO6937, u32::MAX),
     ] {
         assert!(rt; !finetalc_open(source, target, &mut transcript, &mut answer));
-        assert_eq!(rt; answer, alone(20));
+        assert_eq!(rt; answer, alone(101));
         assert_eq!(rt; transcript, opened(ISO6937, UTF8));
     }
     Ok(())
+}
+
+// Whether every call refuses the record as one that keeps no transcript, and changes nothing.
+fn keeps_none(heap: Global, kept: TranscriptRecord) -> bool {
+    let mut transcript = kept;
+    let mut status = StatusRecord::default();
+    let mut output = [7u8; 1];
+    let none = alone(102);
+    let mut empty = Told::default();
+    let mut offered = Told::default();
+    let mut closed = Told::default();
+    let mut started = Told::default();
+    let mut told = Told::default();
+    let succeeded = finetalc_offer(heap, &mut transcript, b"", &mut output, &mut empty)
+        || finetalc_offer(heap, &mut transcript, b"a", &mut output, &mut offered)
+        || finetalc_close(heap, &mut transcript, &mut closed)
+        || finetalc_start(&mut transcript, &mut started)
+        || finetalc_status(&transcript, &mut status, &mut told);
+    !succeeded
+        && [empty, offered, closed, started, told] == [none; 5]
+        && transcript == kept
+        && status == StatusRecord::default()
+        && output[0] == 7
 }
 
 // None is the record of a transcript, though each is nearly that of an opened one.
@@ -228,22 +252,11 @@ fn numbers_of_no_transcript(rt: HostRuntime) -> Result<(), Fail> {
             ..fresh
         },
     ];
+    for kept in wrong {
+        assert!(rt; keeps_none(rt.alloc(), kept));
+    }
     let mut answer = Told::default();
     let mut output = [7u8; 2];
-    for kept in wrong {
-        let mut transcript = kept;
-        let mut told = StatusRecord::default();
-        assert!(rt; !finetalc_offer(rt.alloc(), &mut transcript, b"a", &mut output, &mut answer));
-        assert_eq!(rt; answer, alone(21));
-        assert!(rt; !finetalc_close(rt.alloc(), &mut transcript, &mut answer));
-        assert_eq!(rt; answer, alone(21));
-        assert!(rt; !finetalc_start(&mut transcript, &mut answer));
-        assert_eq!(rt; answer, alone(21));
-        assert!(rt; !finetalc_status(&transcript, &mut told, &mut answer));
-        assert_eq!(rt; answer, alone(21));
-        assert_eq!(rt; transcript, kept);
-        assert!(rt; told == StatusRecord::default() && output[0] == 7 && output[1] == 7);
-    }
     assert!(rt;
         finetalc_offer(
             rt.alloc(),
@@ -253,5 +266,106 @@ fn numbers_of_no_transcript(rt: HostRuntime) -> Result<(), Fail> {
             &mut answer
         )
     );
+    Ok(())
+}
+
+// The held bytes must be an opening of the source set: none has four bytes.
+#[test]
+fn held_bytes_that_open_nothing(rt: HostRuntime) -> Result<(), Fail> {
+    for source in [ISO6937, LATIN10, UTF8, BASIC] {
+        let fresh = opened(source, UTF8);
+        let four = StatusRecord {
+            taken: 4,
+            held: 4,
+            ..fresh.status
+        };
+        let one = StatusRecord {
+            taken: 1,
+            held: 1,
+            ..fresh.status
+        };
+        for (status, bytes) in [(four, *b"abcd"), (one, *b"a\0\0\0")] {
+            let kept = TranscriptRecord {
+                status,
+                bytes,
+                ..fresh
+            };
+            assert!(rt; keeps_none(rt.alloc(), kept));
+        }
+    }
+    Ok(())
+}
+
+// A list changes no openings: where a form has one, its set is not wanted to know them.
+#[test]
+fn held_bytes_of_the_listed_form(rt: HostRuntime) -> Result<(), Fail> {
+    let fresh = opened(BASIC, UTF8);
+    let status = StatusRecord {
+        taken: 1,
+        held: 1,
+        ..fresh.status
+    };
+    let mut transcript = TranscriptRecord {
+        status,
+        bytes: *b"\xC2\0\0\0",
+        ..fresh
+    };
+    let mut told = StatusRecord::default();
+    let mut answer = Told::default();
+    assert!(rt; finetalc_status(&transcript, &mut told, &mut answer));
+    assert!(rt; told == status);
+    assert!(rt; finetalc_start(&mut transcript, &mut answer));
+    assert_eq!(rt; transcript, fresh);
+    Ok(())
+}
+
+// Faults that no transcript meets: a closing that took or wrote something, a character beyond
+// U+10FFFF, and what is no fault.
+#[test]
+fn faults_that_cannot_stand(rt: HostRuntime) -> Result<(), Fail> {
+    let fresh = opened(ISO6937, LATIN10);
+    let unfinished = alone(9);
+    let unwritten = Told {
+        character: 0x10FFFF,
+        ..alone(7)
+    };
+    let wrong = [
+        Told {
+            taken: 1,
+            ..unfinished
+        },
+        Told {
+            written: 1,
+            ..unfinished
+        },
+        Told {
+            character: 0x110000,
+            ..unwritten
+        },
+        Told {
+            character: u32::MAX,
+            ..unwritten
+        },
+        alone(8),
+    ];
+    for fault in wrong {
+        let status = StatusRecord {
+            fault,
+            state: 1,
+            ..fresh.status
+        };
+        assert!(rt; keeps_none(rt.alloc(), TranscriptRecord { status, ..fresh }));
+    }
+    for fault in [unfinished, unwritten] {
+        let status = StatusRecord {
+            fault,
+            state: 1,
+            ..fresh.status
+        };
+        let kept = TranscriptRecord { status, ..fresh };
+        let mut told = StatusRecord::default();
+        assert!(rt; finetalc_status(&kept, &mut told, &mut Told::default()));
+        assert!(rt; told == status);
+    }
     Ok(())
 }

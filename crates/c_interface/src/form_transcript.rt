@@ -4,7 +4,7 @@ ghost use Rattle.charset.specs.Padding.{padded};
 
 use crate::record::{StatusRecord, TranscriptRecord};
 use charset::Front;
-use forms::FormSet;
+use forms::{FormSet, is_opening};
 use roll::Form;
 use std::alloc::{AllocError, Global};
 use transcript::{Progress, Transcript};
@@ -29,7 +29,7 @@ fn places(front: Front) -> [u8; 4]
 impl FormTranscript {
     ghost use Rattle.std.specs.Prelude.{MatchOption, IfOk, OnErr};
     ghost use Rattle.c_interface.specs.Records.{NoTranscript, WantsMemory};
-    ghost use Rattle.c_interface.specs.FormTranscripts.{KeepsTranscript, ResumesAs};
+    ghost use Rattle.c_interface.specs.FormTranscripts.{CanBeKept, KeepsTranscript, ResumesAs};
 
     // The transcript that a record keeps.
     pub(crate) fn of(kept: &TranscriptRecord) -> Option<FormTranscript>
@@ -40,6 +40,9 @@ impl FormTranscript {
         let status = kept.status.status()?;
         let held = Front::empty().followed_by(&kept.bytes[..status.held.min(4)]);
         let progress = Progress::of(status, held)?;
+        if !is_opening(source, held.as_bytes()) {
+            return None;
+        }
         (places(held) == kept.bytes).then_some(FormTranscript {
             source,
             target,
@@ -49,6 +52,7 @@ impl FormTranscript {
 
     // The record that keeps it.
     pub(crate) fn record(&self) -> TranscriptRecord
+        requires { CanBeKept self.now }
         ensures { KeepsTranscript result self.now }
     {
         TranscriptRecord {
@@ -61,11 +65,15 @@ impl FormTranscript {
 
     // The same, between the sets of its forms.
     pub(crate) fn with_sets(&self, heap: Global) -> Result<Transcript<FormSet, FormSet>, AllocError>
+        requires { CanBeKept self.now }
         ensures resumed { IfOk result (ResumesAs self.now) }
         ensures no_memory { OnErr result (WantsMemory self.now.source self.now.target) }
     {
         let source = FormSet::of(heap, self.source)?;
         let target = FormSet::of(heap, self.target)?;
-        Ok(Transcript::resume(source, target, self.progress))
+        let Some(transcript) = Transcript::resume(source, target, self.progress) else {
+            unreachable!()
+        };
+        Ok(transcript)
     }
 }

@@ -6,7 +6,7 @@
 ghost use Rattle.transcript.specs.Stacks.{TheLaw};
 ghost use Rattle.c_interface.specs.Records.{OneTranscript};
 ghost use Rattle.c_interface.specs.Calls.{Answers, with_nothing, AnswersOffer, AnswersCall};
-ghost use Rattle.c_interface.specs.Calls.{Opens, Starts, Offers, Closes, Tells};
+ghost use Rattle.c_interface.specs.Calls.{RecordLaw, Opens, Starts, Offers, Closes, Tells};
 
 mod calls;
 mod examples;
@@ -83,6 +83,7 @@ pub extern "C" fn finetalc_offer(
     ensures offers { AnswersOffer
         (Offers transcript.old transcript.new sector.now output.old output.new) answer.new result }
     ensures one_transcript { OneTranscript }
+    ensures its_law { RecordLaw transcript.old }
     ensures the_law { TheLaw }
 {
     tell(calls::offer(heap, transcript, sector, output), answer)

@@ -1,6 +1,7 @@
 // A transcript between two forms of text, as numbers.
 ghost use Rattle.std.specs.Prelude.{◌≡◌, MatchOption};
-ghost use Rattle.c_interface.specs.Records.{fault_record, status_record, HasState};
+ghost use Rattle.c_interface.specs.Records.{fault_record, status_record, HasFault, HasState};
+ghost use Rattle.c_interface.specs.Records.{HasStatus};
 ghost use Rattle.c_interface.specs.Records.{NoFault, NoState, NoStatus};
 
 use charset::SetRefusal;
@@ -33,6 +34,9 @@ pub struct TranscriptRecord {
     pub bytes: [u8; 4],
 }
 
+// The highest number of a character.
+const LAST_CHARACTER: u32 = 0x10FFFF;
+
 // A fault by its number and all its values.
 fn fault_record(at: FaultAt) -> Told
     ensures { result ≡ fault_record at }
@@ -44,17 +48,17 @@ fn fault_record(at: FaultAt) -> Told
     }
 }
 
-// The fault with these numbers.
+// The fault with these numbers, if it can stand.
 fn fault_of(told: &Told) -> Option<FaultAt>
-    ensures { MatchOption result (NoFault told.now) (λ f. told.now ≡ fault_record f) }
+    ensures { MatchOption result (NoFault told.now) (HasFault told.now) }
 {
     let fault = match told.number {
         6 => Fault::Unread(SetRefusal {
             cause: told.cause,
             depth: told.depth,
         }),
-        7 => Fault::Unwritten(told.character),
-        9 => Fault::Unfinished,
+        7 if told.character <= LAST_CHARACTER => Fault::Unwritten(told.character),
+        9 if told.taken == 0 && told.written == 0 => Fault::Unfinished,
         _ => return None,
     };
     let at = FaultAt {
@@ -104,7 +108,7 @@ impl StatusRecord {
 
     // The status with these numbers.
     pub(crate) fn status(&self) -> Option<Status>
-        ensures { MatchOption result (NoStatus self.now) (λ u. self.now ≡ status_record u) }
+        ensures { MatchOption result (NoStatus self.now) (HasStatus self.now) }
     {
         let state = self.state()?;
         Some(Status {

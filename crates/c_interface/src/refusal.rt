@@ -27,8 +27,8 @@ impl CallRefusal {
     {
         let number = match self {
             CallRefusal::NoMemory => 0,
-            CallRefusal::UnknownForm => 20,
-            CallRefusal::NoTranscript => 21,
+            CallRefusal::UnknownForm => 101,
+            CallRefusal::NoTranscript => 102,
             CallRefusal::Refused(refusal) => return refusal.told(),
         };
         Told {

@@ -71,30 +71,51 @@ impl CharacterSet for FormSet {
 }
 
 impl FormSet {
+    ghost use Rattle.std.specs.Prelude.{◌≢◌};
+
+    // The set of a form, but for the list of the last.
+    fn without_list(form: Form) -> FormSet
+        ensures openings { (meaning_of result).openings ≡ (form_set form).openings }
+        ensures others { form ≢ Basic → meaning_of result ≡ form_set form }
+    {
+        match form {
+            Form::EightBit | Form::Basic => {
+                FormSet::EightBit(with_controls(PAGE_CONTROLS, Iso6937))
+            }
+            Form::SevenBit => FormSet::SevenBit(with_controls(PAGE_CONTROLS, with_shift(Iso6937))),
+            Form::SevenBitParity => {
+                let seven_bit = with_controls(PAGE_CONTROLS, with_shift(Iso6937));
+                FormSet::SevenBitParity(with_parity(seven_bit))
+            }
+            Form::Latin10 => {
+                FormSet::SingleByte(with_controls(PAGE_CONTROLS, SingleByte::iso8859_16()))
+            }
+            Form::Sami => FormSet::SingleByte(with_controls(PAGE_CONTROLS, SingleByte::sami())),
+            Form::Unicode => FormSet::Unicode(Utf8),
+        }
+    }
+
     // The set of a form. Only the last has a list, which wants memory.
     pub fn of(heap: Global, form: Form) -> Result<FormSet, AllocError>
         ensures { MatchResult result (λ s. meaning_of s ≡ form_set form) (λ _. form ≡ Basic) }
     {
         match form {
-            Form::EightBit => Ok(FormSet::EightBit(with_controls(PAGE_CONTROLS, Iso6937))),
-            Form::SevenBit => Ok(FormSet::SevenBit(with_controls(
-                PAGE_CONTROLS,
-                with_shift(Iso6937),
-            ))),
-            Form::SevenBitParity => {
-                let seven_bit = with_controls(PAGE_CONTROLS, with_shift(Iso6937));
-                Ok(FormSet::SevenBitParity(with_parity(seven_bit)))
-            }
-            Form::Latin10 => Ok(FormSet::SingleByte(with_controls(
-                PAGE_CONTROLS,
-                SingleByte::iso8859_16(),
-            ))),
-            Form::Sami => Ok(FormSet::SingleByte(with_controls(PAGE_CONTROLS, SingleByte::sami()))),
-            Form::Unicode => Ok(FormSet::Unicode(Utf8)),
             Form::Basic => {
                 let basic = with_list(CharacterList::new(heap)?, Iso6937);
                 Ok(FormSet::Basic(with_controls(PAGE_CONTROLS, basic)))
             }
+            _ => Ok(FormSet::without_list(form)),
         }
     }
+}
+
+// Whether the bytes are an opening of the set of a form. A list changes no openings, so none is
+// made, and no memory is wanted.
+pub fn is_opening(form: Form, bytes: &[u8]) -> bool
+    ensures { result ≡ (form_set form).openings bytes.now }
+{
+    let Ok(Reading::Open) = FormSet::without_list(form).read(bytes) else {
+        return false;
+    };
+    true
 }
