@@ -22,7 +22,7 @@ impl Count {
     // Counts a run, and prints it if it differs.
     fn add(&mut self, rt: &HostRuntime, run: &Stretch) -> anyhow::Result<()> {
         let questions = run.question_count();
-        if run.ours.agrees(run.vector.answer) {
+        if run.agrees() {
             self.agree = self.agree.saturating_add(questions);
         } else {
             println!(rt; "{run}")?;
@@ -34,23 +34,14 @@ impl Count {
     // Puts the questions of a vector to our set. A loop: to collect the answers first and group
     // them would take memory for a million of them.
     fn hold(&mut self, rt: &HostRuntime, vector: &Vector) -> anyhow::Result<()> {
-        let mut run = Stretch {
-            vector,
-            from: vector.from,
-            to: vector.to,
-            ours: vector.ask(vector.from),
-        };
+        let mut run = Stretch::at(vector, vector.from)?;
         for number in vector.from..=vector.to {
-            let ours = vector.ask(number);
-            if ours != run.ours {
-                let to = number.saturating_sub(1);
-                self.add(rt, &Stretch { to, ..run })?;
-                run = Stretch {
-                    from: number,
-                    ours,
-                    ..run
-                };
+            let next = Stretch::at(vector, number)?;
+            if next.ours != run.ours {
+                self.add(rt, &run)?;
+                run = next;
             }
+            run.to = number;
         }
         self.add(rt, &run)
     }

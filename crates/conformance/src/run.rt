@@ -1,10 +1,14 @@
 // A run of a vector's questions to which our answer is the same.
-ghost use Rattle.std.specs.Prelude.{◌≡◌, ◌+◌, ◌-◌};
+ghost use Rattle.std.specs.Prelude.{◌≡◌, ◌+◌, ◌-◌, true, IfOk};
+ghost use Rattle.conformance.specs.Agreement.{Tells};
 ghost use Rattle.conformance.specs.Differences.{first_byte, Apart, ApartInReading, ApartInWriting};
+ghost use Rattle.conformance.specs.Held.{Accounted, Agree};
+ghost use Rattle.conformance.specs.Meanings.{named_meaning};
 
 use crate::answer::Reply;
 use crate::known::{Known, beyond, in_6937};
 use crate::vector::{Question, Set, Vector};
+use anyhow::bail;
 use std::fmt;
 
 #[derive(Clone, Copy)]
@@ -15,7 +19,31 @@ pub struct Stretch<'a> {
     pub ours: Reply,
 }
 
-impl Stretch<'_> {
+impl<'a> Stretch<'a> {
+    // A run of one question. An error, which names it, where our answer differs in no known way.
+    pub(crate) fn at(vector: &'a Vector, number: u32) -> anyhow::Result<Stretch<'a>>
+        ensures told { IfOk result (λ run.
+            Tells (named_meaning vector.now.set) vector.now.question number run.ours) }
+        ensures accounted { IfOk result (λ run. Accounted vector.now number run.ours) }
+    {
+        let run = Stretch {
+            vector,
+            from: number,
+            to: number,
+            ours: vector.ask(number),
+        };
+        if !run.agrees() && run.known().is_none() {
+            bail!("{run}");
+        }
+        Ok(run)
+    }
+
+    pub(crate) fn agrees(&self) -> bool
+        ensures { result ≡ true → Agree self.now.ours self.now.vector.now.answer }
+    {
+        self.ours.agrees(self.vector.answer)
+    }
+
     pub(crate) fn question_count(&self) -> u64
         ensures { result ≡ self.now.to + 1 - self.now.from }
     {
