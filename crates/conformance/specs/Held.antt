@@ -15,8 +15,10 @@ Agree r q = (r ≡ q) ⊎ ((is_refusal r ≡ true) × (is_refusal q ≡ true))
 abbrev pub Accounted : Vector → ℕ → Reply → Type 0
 Accounted v n ours = Agree ours v.answer ⊎ ((k : Known) × Apart v n ours (Some k))
 
--- so does what our set answers to each number of a vector
+-- so does what our set answers to n
+abbrev pub HeldAt : Vector → ℕ → Type 0
+HeldAt v n = (r : Reply) × Tells (named_meaning v.set) v.question n r × Accounted v n r
+
+-- and to each number of a vector
 abbrev pub Held : Vector → Type 0
-Held v =
-    (n : ℕ) → v.from ≤ n → n ≤ v.to
-    → (r : Reply) × Tells (named_meaning v.set) v.question n r × Accounted v n r
+Held v = (n : ℕ) → v.from ≤ n → n ≤ v.to → HeldAt v n

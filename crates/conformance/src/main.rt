@@ -1,6 +1,11 @@
-// Holds the character sets against vectors that another converter made: counts what agrees, and
-// prints every difference.
+// Holds the character sets against vectors that another converter made: counts what agrees, prints
+// every difference of a known kind, and ends with an error at one of no known kind. The vectors in
+// `stdin` are from outside: `tools/vectors.py` makes them with the system's converter. `stdout` is
+// this program's own output, and of it only the converter's answers are from outside.
 #![tactic(auto)]
+
+ghost use Rattle.std.specs.Prelude.{OnOk};
+ghost use Rattle.conformance.specs.Held.{Held};
 
 mod answer;
 mod known;
@@ -31,9 +36,12 @@ impl Count {
         Ok(())
     }
 
-    // Puts the questions of a vector to our set. A loop: to collect the answers first and group
-    // them would take memory for a million of them.
-    fn hold(&mut self, rt: &HostRuntime, vector: &Vector) -> anyhow::Result<()> {
+    // Puts the questions of a vector to our set, and stops at an answer that differs in no known
+    // way. A loop: to collect the answers first and group them would take memory for a million of
+    // them.
+    fn hold(&mut self, rt: &HostRuntime, vector: &Vector) -> anyhow::Result<()>
+        ensures { OnOk result (Held vector.now) }
+    {
         let mut run = Stretch::at(vector, vector.from)?;
         for number in vector.from..=vector.to {
             let next = Stretch::at(vector, number)?;
