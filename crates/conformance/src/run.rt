@@ -6,7 +6,7 @@ ghost use Rattle.conformance.specs.Held.{Accounted, Agree};
 ghost use Rattle.conformance.specs.Meanings.{named_meaning};
 
 use crate::answer::Reply;
-use crate::known::{Known, beyond, in_6937};
+use crate::known::{Known, beyond, in_6937, is_control};
 use crate::vector::{Question, Set, Vector};
 use anyhow::bail;
 use std::fmt;
@@ -63,7 +63,7 @@ impl<'a> Stretch<'a> {
     // A difference in what a string is read as.
     fn in_reading(&self, width: usize) -> Option<Known>
         ensures { ApartInReading self.now.vector.now.set (first_byte width self.now.from)
-            self.now.vector.now.answer self.now.ours result }
+            self.now.from self.now.vector.now.answer self.now.ours result }
     {
         let first = if width > 2 { self.from >> 8 } else { self.from };
         match (self.vector.set, self.vector.answer, self.ours) {
@@ -72,7 +72,7 @@ impl<'a> Stretch<'a> {
             (set, Reply::Character(character, 1), Reply::Refused(31)) => beyond(
                 set, character, first,
             ),
-            (Set::Iso6937, theirs, ours) => in_6937(theirs, ours),
+            (Set::Iso6937, theirs, ours) => in_6937(self.from, theirs, ours),
             _ => None,
         }
     }
@@ -80,15 +80,21 @@ impl<'a> Stretch<'a> {
     // A difference in how a character is written.
     fn in_writing(&self) -> Option<Known>
         ensures { ApartInWriting self.now.vector.now.set self.now.from
-            self.now.vector.now.answer result }
+            self.now.vector.now.answer self.now.ours result }
     {
-        match (self.vector.set, self.vector.answer, self.from) {
-            (Set::Utf8, _, _) => None,
-            (_, Reply::Bytes(0, 0), 0xE0000..=0xE007F) => Some(Known::Tags),
-            (Set::Iso6937, _, 0x2014..=0x2015) => Some(Known::Bar),
-            (Set::Iso6937, _, 0xD0 | 0x110) => Some(Known::Stroke),
-            (Set::Iso6937, _, 0x123) => Some(Known::SmallG),
-            (set, Reply::Bytes(byte, 1), number) => beyond(set, number, byte),
+        match (self.vector.set, self.from, self.vector.answer, self.ours) {
+            (Set::Utf8, _, _, _) => None,
+            (set, number, Reply::Bytes(byte, 1), Reply::NoCoding) if is_control(byte) => {
+                beyond(set, number, byte)
+            }
+            (_, 0xE0000..=0xE007F, Reply::Bytes(0, 0), Reply::NoCoding) => Some(Known::Tags),
+            (Set::Iso6937, 0x2014, Reply::Bytes(0xD0, 1), Reply::NoCoding) => Some(Known::Bar),
+            (Set::Iso6937, 0x2015, Reply::NoCoding, Reply::Bytes(0xD0, 1)) => Some(Known::Bar),
+            (Set::Iso6937, 0xD0, Reply::Bytes(0xE2, 1), Reply::NoCoding) => Some(Known::Stroke),
+            (Set::Iso6937, 0x110, Reply::NoCoding, Reply::Bytes(0xE2, 1)) => Some(Known::Stroke),
+            (Set::Iso6937, 0x123, Reply::Bytes(0xCB67, 2), Reply::Bytes(0xC267, 2)) => {
+                Some(Known::SmallG)
+            }
             _ => None,
         }
     }
