@@ -37,30 +37,30 @@ Beyond s c b (Some known.SmallG) = ⊥
 Beyond s c b (Some known.Waits) = ⊥
 Beyond s c b (Some known.Tags) = ⊥
 
--- their answer and ours to a string of ISO/IEC 6937
+-- their answer and ours to a string x of ISO/IEC 6937, as a number
 abbrev pub IsBar : Reply → Reply → Type 0
 IsBar theirs ours = (theirs ≡ answer.Character 0x2014 1) × (ours ≡ answer.Character 0x2015 1)
 
 abbrev pub IsStroke : Reply → Reply → Type 0
 IsStroke theirs ours = (theirs ≡ answer.Character 0xd0 1) × (ours ≡ answer.Character 0x110 1)
 
-abbrev pub IsSmallG : Reply → Reply → Type 0
-IsSmallG theirs ours =
-    ((is_refusal theirs ≡ true) × (ours ≡ answer.Character 0x123 2))
-    ⊎ ((theirs ≡ answer.Character 0x123 2) × (ours ≡ answer.Refused 32))
+abbrev pub IsSmallG : ℕ → Reply → Reply → Type 0
+IsSmallG x theirs ours =
+    ((x ≡ 0xc267) × (is_refusal theirs ≡ true) × (ours ≡ answer.Character 0x123 2))
+    ⊎ ((x ≡ 0xcb67) × (theirs ≡ answer.Character 0x123 2) × (ours ≡ answer.Refused 32))
 
-abbrev pub ApartIn6937 : Reply → Reply → Option Known → Type 0
-ApartIn6937 theirs ours (Some known.Bar) = IsBar theirs ours
-ApartIn6937 theirs ours (Some known.Stroke) = IsStroke theirs ours
-ApartIn6937 theirs ours (Some known.SmallG) = IsSmallG theirs ours
-ApartIn6937 theirs ours None =
-    (IsBar theirs ours → ⊥) × (IsStroke theirs ours → ⊥) × (IsSmallG theirs ours → ⊥)
-ApartIn6937 theirs ours (Some known.Control) = ⊥
-ApartIn6937 theirs ours (Some known.Window) = ⊥
-ApartIn6937 theirs ours (Some known.Waits) = ⊥
-ApartIn6937 theirs ours (Some known.Tags) = ⊥
+abbrev pub ApartIn6937 : ℕ → Reply → Reply → Option Known → Type 0
+ApartIn6937 x theirs ours (Some known.Bar) = IsBar theirs ours
+ApartIn6937 x theirs ours (Some known.Stroke) = IsStroke theirs ours
+ApartIn6937 x theirs ours (Some known.SmallG) = IsSmallG x theirs ours
+ApartIn6937 x theirs ours None =
+    (IsBar theirs ours → ⊥) × (IsStroke theirs ours → ⊥) × (IsSmallG x theirs ours → ⊥)
+ApartIn6937 x theirs ours (Some known.Control) = ⊥
+ApartIn6937 x theirs ours (Some known.Window) = ⊥
+ApartIn6937 x theirs ours (Some known.Waits) = ⊥
+ApartIn6937 x theirs ours (Some known.Tags) = ⊥
 
--- in reading, a string whose first byte is b
+-- in reading a string x, as a number, whose first byte is b
 abbrev pub Waits : Reply → Reply → Type 0
 Waits theirs ours = (theirs ≡ answer.Open) × (is_refusal ours ≡ true)
 
@@ -69,45 +69,65 @@ ReadsBeyond s theirs ours Kind =
     (s ≢ set.Utf8) × ((c : ℕ) × (theirs ≡ answer.Character c 1) × (ours ≡ answer.Refused 31)
     × Kind c)
 
-abbrev pub ApartInReading : Set → ℕ → Reply → Reply → Option Known → Type 0
-ApartInReading s b theirs ours (Some known.Waits) = Waits theirs ours
-ApartInReading s b theirs ours (Some known.Control) = ReadsBeyond s theirs ours (λ c. IsControl c b)
-ApartInReading s b theirs ours (Some known.Window) = ReadsBeyond s theirs ours (λ c. IsWindow s c b)
-ApartInReading s b theirs ours (Some known.Bar) = (s ≡ set.Iso6937) × IsBar theirs ours
-ApartInReading s b theirs ours (Some known.Stroke) = (s ≡ set.Iso6937) × IsStroke theirs ours
-ApartInReading s b theirs ours (Some known.SmallG) = (s ≡ set.Iso6937) × IsSmallG theirs ours
-ApartInReading s b theirs ours (Some known.Tags) = ⊥
-ApartInReading s b theirs ours None =
+abbrev pub ApartInReading : Set → (b x : ℕ) → Reply → Reply → Option Known → Type 0
+ApartInReading s b x theirs ours (Some known.Waits) = Waits theirs ours
+ApartInReading s b x theirs ours (Some known.Control) = ReadsBeyond s theirs ours (λ c. IsControl c b)
+ApartInReading s b x theirs ours (Some known.Window) = ReadsBeyond s theirs ours (λ c. IsWindow s c b)
+ApartInReading s b x theirs ours (Some known.Bar) = (s ≡ set.Iso6937) × IsBar theirs ours
+ApartInReading s b x theirs ours (Some known.Stroke) = (s ≡ set.Iso6937) × IsStroke theirs ours
+ApartInReading s b x theirs ours (Some known.SmallG) = (s ≡ set.Iso6937) × IsSmallG x theirs ours
+ApartInReading s b x theirs ours (Some known.Tags) = ⊥
+ApartInReading s b x theirs ours None =
     (Waits theirs ours → ⊥) × (ReadsBeyond s theirs ours (λ c. IsControl c b) → ⊥)
     × (ReadsBeyond s theirs ours (λ c. IsWindow s c b) → ⊥)
     × (s ≡ set.Iso6937 → (IsBar theirs ours → ⊥) × (IsStroke theirs ours → ⊥)
-    × (IsSmallG theirs ours → ⊥))
+    × (IsSmallG x theirs ours → ⊥))
 
 -- in writing n
-abbrev pub IsTag : Set → ℕ → Reply → Type 0
-IsTag s n theirs = (s ≢ set.Utf8) × (0xe0000 ≤ n) × (n ≤ 0xe007f) × (theirs ≡ answer.Bytes 0 0)
+abbrev pub IsTag : Set → ℕ → Reply → Reply → Type 0
+IsTag s n theirs ours =
+    (s ≢ set.Utf8) × (0xe0000 ≤ n) × (n ≤ 0xe007f) × (theirs ≡ answer.Bytes 0 0)
+    × (ours ≡ answer.NoCoding)
 
-abbrev pub WritesBeyond : Set → Reply → (ℕ → Type 0) → Type 0
-WritesBeyond s theirs Kind = (s ≢ set.Utf8) × ((b : ℕ) × (theirs ≡ answer.Bytes b 1) × Kind b)
+abbrev pub WritesBeyond : Set → Reply → Reply → (ℕ → Type 0) → Type 0
+WritesBeyond s theirs ours Kind =
+    (s ≢ set.Utf8) × (ours ≡ answer.NoCoding) × ((b : ℕ) × (theirs ≡ answer.Bytes b 1) × Kind b)
 
-abbrev pub ApartInWriting : Set → ℕ → Reply → Option Known → Type 0
-ApartInWriting s n theirs (Some known.Tags) = IsTag s n theirs
-ApartInWriting s n theirs (Some known.Control) = WritesBeyond s theirs (λ b. IsControl n b)
-ApartInWriting s n theirs (Some known.Window) = WritesBeyond s theirs (λ b. IsWindow s n b)
-ApartInWriting s n theirs (Some known.Bar) = (s ≡ set.Iso6937) × ((n ≡ 0x2014) ⊎ (n ≡ 0x2015))
-ApartInWriting s n theirs (Some known.Stroke) = (s ≡ set.Iso6937) × ((n ≡ 0xd0) ⊎ (n ≡ 0x110))
-ApartInWriting s n theirs (Some known.SmallG) = (s ≡ set.Iso6937) × (n ≡ 0x123)
-ApartInWriting s n theirs (Some known.Waits) = ⊥
-ApartInWriting s n theirs None =
-    (IsTag s n theirs → ⊥) × (WritesBeyond s theirs (λ b. IsControl n b) → ⊥)
-    × (WritesBeyond s theirs (λ b. IsWindow s n b) → ⊥)
-    × (s ≡ set.Iso6937 → (n ≢ 0x2014) × (n ≢ 0x2015) × (n ≢ 0xd0) × (n ≢ 0x110) × (n ≢ 0x123))
+-- the byte b stands for the character c there, and for d here
+abbrev pub Exchanged : (b c d n : ℕ) → Reply → Reply → Type 0
+Exchanged b c d n theirs ours =
+    ((n ≡ c) × (theirs ≡ answer.Bytes b 1) × (ours ≡ answer.NoCoding))
+    ⊎ ((n ≡ d) × (theirs ≡ answer.NoCoding) × (ours ≡ answer.Bytes b 1))
+
+abbrev pub WritesBar : ℕ → Reply → Reply → Type 0
+WritesBar n theirs ours = Exchanged 0xd0 0x2014 0x2015 n theirs ours
+
+abbrev pub WritesStroke : ℕ → Reply → Reply → Type 0
+WritesStroke n theirs ours = Exchanged 0xe2 0xd0 0x110 n theirs ours
+
+abbrev pub WritesSmallG : ℕ → Reply → Reply → Type 0
+WritesSmallG n theirs ours =
+    (n ≡ 0x123) × (theirs ≡ answer.Bytes 0xcb67 2) × (ours ≡ answer.Bytes 0xc267 2)
+
+abbrev pub ApartInWriting : Set → ℕ → Reply → Reply → Option Known → Type 0
+ApartInWriting s n theirs ours (Some known.Tags) = IsTag s n theirs ours
+ApartInWriting s n theirs ours (Some known.Control) = WritesBeyond s theirs ours (λ b. IsControl n b)
+ApartInWriting s n theirs ours (Some known.Window) = WritesBeyond s theirs ours (λ b. IsWindow s n b)
+ApartInWriting s n theirs ours (Some known.Bar) = (s ≡ set.Iso6937) × WritesBar n theirs ours
+ApartInWriting s n theirs ours (Some known.Stroke) = (s ≡ set.Iso6937) × WritesStroke n theirs ours
+ApartInWriting s n theirs ours (Some known.SmallG) = (s ≡ set.Iso6937) × WritesSmallG n theirs ours
+ApartInWriting s n theirs ours (Some known.Waits) = ⊥
+ApartInWriting s n theirs ours None =
+    (IsTag s n theirs ours → ⊥) × (WritesBeyond s theirs ours (λ b. IsControl n b) → ⊥)
+    × (WritesBeyond s theirs ours (λ b. IsWindow s n b) → ⊥)
+    × (s ≡ set.Iso6937 → (WritesBar n theirs ours → ⊥) × (WritesStroke n theirs ours → ⊥)
+    × (WritesSmallG n theirs ours → ⊥))
 
 -- a question put to n, their answer and ours
 abbrev pub ApartAt : Question → Set → ℕ → Reply → Reply → Option Known → Type 0
 ApartAt (question.Read width) s n theirs ours k =
-    ApartInReading s (first_byte width n) theirs ours k
-ApartAt question.Write s n theirs ours k = ApartInWriting s n theirs k
+    ApartInReading s (first_byte width n) n theirs ours k
+ApartAt question.Write s n theirs ours k = ApartInWriting s n theirs ours k
 
 -- a question of a vector, reading or writing n, and our answer to it
 abbrev pub Apart : Vector → ℕ → Reply → Option Known → Type 0

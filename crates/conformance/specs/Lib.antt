@@ -1,5 +1,6 @@
 pub mod Agreement
 pub mod Differences
+pub mod Held
 pub mod Meanings
 pub mod Names
 pub mod Numbers

@@ -44,7 +44,7 @@ impl fmt::Display for Known {
     }
 }
 
-fn is_control(number: u32) -> bool
+pub(crate) fn is_control(number: u32) -> bool
     ensures { result ≡ control_position number }
 {
     number < 0x20 || (0x7F..0xA0).contains(&number)
@@ -63,15 +63,15 @@ pub(crate) fn beyond(set: Set, character: u32, byte: u32) -> Option<Known>
     }
 }
 
-// A difference in what a string of ISO/IEC 6937 is read as.
-pub(crate) fn in_6937(theirs: Reply, ours: Reply) -> Option<Known>
-    ensures { ApartIn6937 theirs ours result }
+// A difference in what a string of ISO/IEC 6937, given as a number, is read as.
+pub(crate) fn in_6937(string: u32, theirs: Reply, ours: Reply) -> Option<Known>
+    ensures { ApartIn6937 string theirs ours result }
 {
-    match (theirs, ours) {
-        (Reply::Character(0x2014, 1), Reply::Character(0x2015, 1)) => Some(Known::Bar),
-        (Reply::Character(0xD0, 1), Reply::Character(0x110, 1)) => Some(Known::Stroke),
-        (Reply::Refused(_), Reply::Character(0x123, 2)) => Some(Known::SmallG),
-        (Reply::Character(0x123, 2), Reply::Refused(32)) => Some(Known::SmallG),
+    match (string, theirs, ours) {
+        (_, Reply::Character(0x2014, 1), Reply::Character(0x2015, 1)) => Some(Known::Bar),
+        (_, Reply::Character(0xD0, 1), Reply::Character(0x110, 1)) => Some(Known::Stroke),
+        (0xC267, Reply::Refused(_), Reply::Character(0x123, 2)) => Some(Known::SmallG),
+        (0xCB67, Reply::Character(0x123, 2), Reply::Refused(32)) => Some(Known::SmallG),
         _ => None,
     }
 }

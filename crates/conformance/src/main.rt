@@ -1,6 +1,11 @@
-// Holds the character sets against vectors that another converter made: counts what agrees, and
-// prints every difference.
+// Holds the character sets against vectors that another converter made: counts what agrees, prints
+// every difference of a known kind, and ends with an error at one of no known kind. The vectors in
+// `stdin` are from outside: `tools/vectors.py` makes them with the system's converter. `stdout` is
+// this program's own output, and of it only the converter's answers are from outside.
 #![tactic(auto)]
+
+ghost use Rattle.std.specs.Prelude.{OnOk};
+ghost use Rattle.conformance.specs.Held.{Held};
 
 mod answer;
 mod known;
@@ -22,7 +27,7 @@ impl Count {
     // Counts a run, and prints it if it differs.
     fn add(&mut self, rt: &HostRuntime, run: &Stretch) -> anyhow::Result<()> {
         let questions = run.question_count();
-        if run.ours.agrees(run.vector.answer) {
+        if run.agrees() {
             self.agree = self.agree.saturating_add(questions);
         } else {
             println!(rt; "{run}")?;
@@ -31,26 +36,20 @@ impl Count {
         Ok(())
     }
 
-    // Puts the questions of a vector to our set. A loop: to collect the answers first and group
-    // them would take memory for a million of them.
-    fn hold(&mut self, rt: &HostRuntime, vector: &Vector) -> anyhow::Result<()> {
-        let mut run = Stretch {
-            vector,
-            from: vector.from,
-            to: vector.to,
-            ours: vector.ask(vector.from),
-        };
+    // Puts the questions of a vector to our set, and stops at an answer that differs in no known
+    // way. A loop: to collect the answers first and group them would take memory for a million of
+    // them.
+    fn hold(&mut self, rt: &HostRuntime, vector: &Vector) -> anyhow::Result<()>
+        ensures { OnOk result (Held vector.now) }
+    {
+        let mut run = Stretch::at(vector, vector.from)?;
         for number in vector.from..=vector.to {
-            let ours = vector.ask(number);
-            if ours != run.ours {
-                let to = number.saturating_sub(1);
-                self.add(rt, &Stretch { to, ..run })?;
-                run = Stretch {
-                    from: number,
-                    ours,
-                    ..run
-                };
+            let next = Stretch::at(vector, number)?;
+            if next.ours != run.ours {
+                self.add(rt, &run)?;
+                run = next;
             }
+            run.to = number;
         }
         self.add(rt, &run)
     }

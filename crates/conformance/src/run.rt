@@ -1,10 +1,14 @@
 // A run of a vector's questions to which our answer is the same.
-ghost use Rattle.std.specs.Prelude.{◌≡◌, ◌+◌, ◌-◌};
+ghost use Rattle.std.specs.Prelude.{◌≡◌, ◌+◌, ◌-◌, true, IfOk};
+ghost use Rattle.conformance.specs.Agreement.{Tells};
 ghost use Rattle.conformance.specs.Differences.{first_byte, Apart, ApartInReading, ApartInWriting};
+ghost use Rattle.conformance.specs.Held.{Accounted, Agree};
+ghost use Rattle.conformance.specs.Meanings.{named_meaning};
 
 use crate::answer::Reply;
-use crate::known::{Known, beyond, in_6937};
+use crate::known::{Known, beyond, in_6937, is_control};
 use crate::vector::{Question, Set, Vector};
+use anyhow::bail;
 use std::fmt;
 
 #[derive(Clone, Copy)]
@@ -15,7 +19,31 @@ pub struct Stretch<'a> {
     pub ours: Reply,
 }
 
-impl Stretch<'_> {
+impl<'a> Stretch<'a> {
+    // A run of one question. An error, which names it, where our answer differs in no known way.
+    pub(crate) fn at(vector: &'a Vector, number: u32) -> anyhow::Result<Stretch<'a>>
+        ensures told { IfOk result (λ run.
+            Tells (named_meaning vector.now.set) vector.now.question number run.ours) }
+        ensures accounted { IfOk result (λ run. Accounted vector.now number run.ours) }
+    {
+        let run = Stretch {
+            vector,
+            from: number,
+            to: number,
+            ours: vector.ask(number),
+        };
+        if !run.agrees() && run.known().is_none() {
+            bail!("{run}");
+        }
+        Ok(run)
+    }
+
+    pub(crate) fn agrees(&self) -> bool
+        ensures { result ≡ true → Agree self.now.ours self.now.vector.now.answer }
+    {
+        self.ours.agrees(self.vector.answer)
+    }
+
     pub(crate) fn question_count(&self) -> u64
         ensures { result ≡ self.now.to + 1 - self.now.from }
     {
@@ -35,7 +63,7 @@ impl Stretch<'_> {
     // A difference in what a string is read as.
     fn in_reading(&self, width: usize) -> Option<Known>
         ensures { ApartInReading self.now.vector.now.set (first_byte width self.now.from)
-            self.now.vector.now.answer self.now.ours result }
+            self.now.from self.now.vector.now.answer self.now.ours result }
     {
         let first = if width > 2 { self.from >> 8 } else { self.from };
         match (self.vector.set, self.vector.answer, self.ours) {
@@ -44,7 +72,7 @@ impl Stretch<'_> {
             (set, Reply::Character(character, 1), Reply::Refused(31)) => beyond(
                 set, character, first,
             ),
-            (Set::Iso6937, theirs, ours) => in_6937(theirs, ours),
+            (Set::Iso6937, theirs, ours) => in_6937(self.from, theirs, ours),
             _ => None,
         }
     }
@@ -52,15 +80,21 @@ impl Stretch<'_> {
     // A difference in how a character is written.
     fn in_writing(&self) -> Option<Known>
         ensures { ApartInWriting self.now.vector.now.set self.now.from
-            self.now.vector.now.answer result }
+            self.now.vector.now.answer self.now.ours result }
     {
-        match (self.vector.set, self.vector.answer, self.from) {
-            (Set::Utf8, _, _) => None,
-            (_, Reply::Bytes(0, 0), 0xE0000..=0xE007F) => Some(Known::Tags),
-            (Set::Iso6937, _, 0x2014..=0x2015) => Some(Known::Bar),
-            (Set::Iso6937, _, 0xD0 | 0x110) => Some(Known::Stroke),
-            (Set::Iso6937, _, 0x123) => Some(Known::SmallG),
-            (set, Reply::Bytes(byte, 1), number) => beyond(set, number, byte),
+        match (self.vector.set, self.from, self.vector.answer, self.ours) {
+            (Set::Utf8, _, _, _) => None,
+            (set, number, Reply::Bytes(byte, 1), Reply::NoCoding) if is_control(byte) => {
+                beyond(set, number, byte)
+            }
+            (_, 0xE0000..=0xE007F, Reply::Bytes(0, 0), Reply::NoCoding) => Some(Known::Tags),
+            (Set::Iso6937, 0x2014, Reply::Bytes(0xD0, 1), Reply::NoCoding) => Some(Known::Bar),
+            (Set::Iso6937, 0x2015, Reply::NoCoding, Reply::Bytes(0xD0, 1)) => Some(Known::Bar),
+            (Set::Iso6937, 0xD0, Reply::Bytes(0xE2, 1), Reply::NoCoding) => Some(Known::Stroke),
+            (Set::Iso6937, 0x110, Reply::NoCoding, Reply::Bytes(0xE2, 1)) => Some(Known::Stroke),
+            (Set::Iso6937, 0x123, Reply::Bytes(0xCB67, 2), Reply::Bytes(0xC267, 2)) => {
+                Some(Known::SmallG)
+            }
             _ => None,
         }
     }
