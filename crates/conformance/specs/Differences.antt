@@ -1,6 +1,7 @@
 -- When a difference is of a known kind.
-use Rattle.std.specs.Prelude.{◌≡◌, ℕ, ◌/◌, ◌≤◌, Bool, true, cond, ◌&&◌, ◌||◌, ◌⊎◌, ◌≢◌, nat_le}
-use Rattle.std.specs.Prelude.{nat_lt, Some, None, Option}
+use Rattle.std.specs.Prelude.{◌≡◌, ℕ, ◌*◌, ◌/◌, ◌%◌, ◌≤◌, Bool, true, false, nat_eq, cond, ◌&&◌}
+use Rattle.std.specs.Prelude.{◌||◌, ◌⊎◌, ◌≢◌, nat_le, nat_lt}
+use Rattle.std.specs.Prelude.{Some, None, Option}
 use Rattle.conformance.specs.declared.answer.Reply.{Reply}
 use Rattle.conformance.specs.declared.answer.Reply.TheVariants as answer
 use Rattle.conformance.specs.declared.known.Known.{Known}
@@ -60,26 +61,60 @@ ApartIn6937 x theirs ours (Some known.Window) = ⊥
 ApartIn6937 x theirs ours (Some known.Waits) = ⊥
 ApartIn6937 x theirs ours (Some known.Tags) = ⊥
 
--- in reading a string x, as a number, whose first byte is b
-abbrev pub Waits : Reply → Reply → Type 0
-Waits theirs ours = (theirs ≡ answer.Open) × (is_refusal ours ≡ true)
+-- the first two bytes of a string as a number, by its digits and its number; of one byte, that
+-- byte and 0
+abbrev pub front_of : ℕ → ℕ → ℕ
+front_of width n =
+    cond (nat_le width 2) (n % 256 * 256) (cond (nat_le width 4) (n % 65536)
+    (cond (nat_le width 6) (n / 256 % 65536) (n / 65536)))
+
+abbrev pub within : ℕ → ℕ → ℕ → Bool
+within low high n = nat_le low n && nat_le n high
+
+-- they wait for more at first bytes f with which no coding begins
+abbrev pub no_beginning : Set → ℕ → Bool
+no_beginning set.Iso6937 f = nat_eq f 0xc900 || nat_eq f 0xcc00
+no_beginning set.Iso8859v16 f = false
+no_beginning set.Sami f = false
+no_beginning set.Utf8 f =
+    within 0xe080 0xe09f f || (within 0xeda0 0xedbf f || (within 0xf080 0xf08f f
+    || within 0xf490 0xfdff f))
+
+abbrev pub WaitsAt : Set → ℕ → Option Known → Type 0
+WaitsAt s f (Some known.Waits) = no_beginning s f ≡ true
+WaitsAt s f None = no_beginning s f ≡ false
+WaitsAt s f (Some known.Control) = ⊥
+WaitsAt s f (Some known.Window) = ⊥
+WaitsAt s f (Some known.Bar) = ⊥
+WaitsAt s f (Some known.Stroke) = ⊥
+WaitsAt s f (Some known.SmallG) = ⊥
+WaitsAt s f (Some known.Tags) = ⊥
+
+-- in reading a string of so many digits, as a number x
+abbrev pub Waits : Set → ℕ → ℕ → Reply → Reply → Type 0
+Waits s width x theirs ours =
+    (no_beginning s (front_of width x) ≡ true) × (theirs ≡ answer.Open) × (is_refusal ours ≡ true)
 
 abbrev pub ReadsBeyond : Set → Reply → Reply → (ℕ → Type 0) → Type 0
 ReadsBeyond s theirs ours Kind =
     (s ≢ set.Utf8) × ((c : ℕ) × (theirs ≡ answer.Character c 1) × (ours ≡ answer.Refused 31)
     × Kind c)
 
-abbrev pub ApartInReading : Set → (b x : ℕ) → Reply → Reply → Option Known → Type 0
-ApartInReading s b x theirs ours (Some known.Waits) = Waits theirs ours
-ApartInReading s b x theirs ours (Some known.Control) = ReadsBeyond s theirs ours (λ c. IsControl c b)
-ApartInReading s b x theirs ours (Some known.Window) = ReadsBeyond s theirs ours (λ c. IsWindow s c b)
-ApartInReading s b x theirs ours (Some known.Bar) = (s ≡ set.Iso6937) × IsBar theirs ours
-ApartInReading s b x theirs ours (Some known.Stroke) = (s ≡ set.Iso6937) × IsStroke theirs ours
-ApartInReading s b x theirs ours (Some known.SmallG) = (s ≡ set.Iso6937) × IsSmallG x theirs ours
-ApartInReading s b x theirs ours (Some known.Tags) = ⊥
-ApartInReading s b x theirs ours None =
-    (Waits theirs ours → ⊥) × (ReadsBeyond s theirs ours (λ c. IsControl c b) → ⊥)
-    × (ReadsBeyond s theirs ours (λ c. IsWindow s c b) → ⊥)
+abbrev pub ApartInReading : Set → (width x : ℕ) → Reply → Reply → Option Known → Type 0
+ApartInReading s width x theirs ours (Some known.Waits) = Waits s width x theirs ours
+ApartInReading s width x theirs ours (Some known.Control) =
+    ReadsBeyond s theirs ours (λ c. IsControl c (first_byte width x))
+ApartInReading s width x theirs ours (Some known.Window) =
+    ReadsBeyond s theirs ours (λ c. IsWindow s c (first_byte width x))
+ApartInReading s width x theirs ours (Some known.Bar) = (s ≡ set.Iso6937) × IsBar theirs ours
+ApartInReading s width x theirs ours (Some known.Stroke) = (s ≡ set.Iso6937) × IsStroke theirs ours
+ApartInReading s width x theirs ours (Some known.SmallG) =
+    (s ≡ set.Iso6937) × IsSmallG x theirs ours
+ApartInReading s width x theirs ours (Some known.Tags) = ⊥
+ApartInReading s width x theirs ours None =
+    (Waits s width x theirs ours → ⊥) × (ReadsBeyond s theirs ours
+    (λ c. IsControl c (first_byte width x)) → ⊥)
+    × (ReadsBeyond s theirs ours (λ c. IsWindow s c (first_byte width x)) → ⊥)
     × (s ≡ set.Iso6937 → (IsBar theirs ours → ⊥) × (IsStroke theirs ours → ⊥)
     × (IsSmallG x theirs ours → ⊥))
 
@@ -111,8 +146,10 @@ WritesSmallG n theirs ours =
 
 abbrev pub ApartInWriting : Set → ℕ → Reply → Reply → Option Known → Type 0
 ApartInWriting s n theirs ours (Some known.Tags) = IsTag s n theirs ours
-ApartInWriting s n theirs ours (Some known.Control) = WritesBeyond s theirs ours (λ b. IsControl n b)
-ApartInWriting s n theirs ours (Some known.Window) = WritesBeyond s theirs ours (λ b. IsWindow s n b)
+ApartInWriting s n theirs ours (Some known.Control) =
+    WritesBeyond s theirs ours (λ b. IsControl n b)
+ApartInWriting s n theirs ours (Some known.Window) =
+    WritesBeyond s theirs ours (λ b. IsWindow s n b)
 ApartInWriting s n theirs ours (Some known.Bar) = (s ≡ set.Iso6937) × WritesBar n theirs ours
 ApartInWriting s n theirs ours (Some known.Stroke) = (s ≡ set.Iso6937) × WritesStroke n theirs ours
 ApartInWriting s n theirs ours (Some known.SmallG) = (s ≡ set.Iso6937) × WritesSmallG n theirs ours
@@ -126,7 +163,7 @@ ApartInWriting s n theirs ours None =
 -- a question put to n, their answer and ours
 abbrev pub ApartAt : Question → Set → ℕ → Reply → Reply → Option Known → Type 0
 ApartAt (question.Read width) s n theirs ours k =
-    ApartInReading s (first_byte width n) n theirs ours k
+    ApartInReading s width n theirs ours k
 ApartAt question.Write s n theirs ours k = ApartInWriting s n theirs ours k
 
 -- a question of a vector, reading or writing n, and our answer to it

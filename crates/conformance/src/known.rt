@@ -1,7 +1,8 @@
 // The differences that are known and wanted: docs/CHARACTER-SETS.md says why each is right on our
 // side.
 ghost use Rattle.std.specs.Prelude.{◌≡◌};
-ghost use Rattle.conformance.specs.Differences.{control_position, ApartIn6937, Beyond};
+ghost use Rattle.conformance.specs.Differences.{control_position, front_of, ApartIn6937, Beyond};
+ghost use Rattle.conformance.specs.Differences.{WaitsAt};
 
 use crate::answer::Reply;
 use crate::vector::Set;
@@ -72,6 +73,32 @@ pub(crate) fn in_6937(string: u32, theirs: Reply, ours: Reply) -> Option<Known>
         (_, Reply::Character(0xD0, 1), Reply::Character(0x110, 1)) => Some(Known::Stroke),
         (0xC267, Reply::Refused(_), Reply::Character(0x123, 2)) => Some(Known::SmallG),
         (0xCB67, Reply::Character(0x123, 2), Reply::Refused(32)) => Some(Known::SmallG),
+        _ => None,
+    }
+}
+
+// The first two bytes of a string as a number, by its digits and its number; of one byte, that byte
+// and 0.
+pub(crate) fn front(width: usize, number: u32) -> u32
+    ensures { result ≡ front_of width number }
+{
+    match width {
+        0..=2 => number % 256 * 256,
+        3..=4 => number % 65536,
+        5..=6 => number / 256 % 65536,
+        _ => number / 65536,
+    }
+}
+
+// A string with which no coding begins, by its first two bytes.
+pub(crate) fn waits(set: Set, front: u32) -> Option<Known>
+    ensures { WaitsAt set front result }
+{
+    match (set, front) {
+        (Set::Iso6937, 0xC900 | 0xCC00) => Some(Known::Waits),
+        (Set::Utf8, 0xE080..=0xE09F | 0xEDA0..=0xEDBF | 0xF080..=0xF08F | 0xF490..=0xFDFF) => {
+            Some(Known::Waits)
+        }
         _ => None,
     }
 }

@@ -6,7 +6,7 @@ ghost use Rattle.conformance.specs.Held.{Accounted, Agree};
 ghost use Rattle.conformance.specs.Meanings.{named_meaning};
 
 use crate::answer::Reply;
-use crate::known::{Known, beyond, in_6937, is_control};
+use crate::known::{Known, beyond, front, in_6937, is_control, waits};
 use crate::vector::{Question, Set, Vector};
 use anyhow::bail;
 use std::fmt;
@@ -62,12 +62,12 @@ impl<'a> Stretch<'a> {
 
     // A difference in what a string is read as.
     fn in_reading(&self, width: usize) -> Option<Known>
-        ensures { ApartInReading self.now.vector.now.set (first_byte width self.now.from)
-            self.now.from self.now.vector.now.answer self.now.ours result }
+        ensures { ApartInReading self.now.vector.now.set width self.now.from
+            self.now.vector.now.answer self.now.ours result }
     {
         let first = if width > 2 { self.from >> 8 } else { self.from };
         match (self.vector.set, self.vector.answer, self.ours) {
-            (_, Reply::Open, Reply::Refused(_)) => Some(Known::Waits),
+            (set, Reply::Open, Reply::Refused(_)) => waits(set, front(width, self.from)),
             (Set::Utf8, _, _) => None,
             (set, Reply::Character(character, 1), Reply::Refused(31)) => beyond(
                 set, character, first,

@@ -1,8 +1,6 @@
 use Rattle.std.proofs.Common.{rules, OnOk, Ok, Err, Result}
 use Rattle.conformance.proofs.Holding.{next_held, all_held}
 use Rattle.conformance.proofs.Count.hold.Goals as goal
-use Rattle.conformance.proofs.Count.hold.Goals.{else-loop-number-test}
-use Rattle.conformance.proofs.Count.hold.Goals.{then-loop-number-test+in_ok-next+else-number-number-end}
 
 on_ok : {X E : Type 0} (r : Result X E) {P : Type 0} → P → OnOk r P
 on_ok (Ok x) p = p
@@ -16,9 +14,9 @@ loop-number-preserved c =
 pub returns : goal.returns
 returns c =
     on_ok c.add-2.result (elim c.loop-number-test.branch [
-      | else-loop-number-test w ↦ all_held c.args.vector.now c.loop-number.number
+      | goal.else-loop-number-test w ↦ all_held c.args.vector.now c.loop-number.number
           c.loop-number.invariant w.loop-number-test.false
-      | then-loop-number-test+in_ok-next+else-number-number-end w ↦
+      | goal.then-loop-number-test+in_ok-next+else-number-number-end w ↦
           all_held c.args.vector.now _
           (next_held c.args.vector.now c.loop-number.number c.loop-number.invariant
           (w.in_ok-next.next.ours, w.in_ok-next.ensures.told, w.in_ok-next.ensures.accounted))
