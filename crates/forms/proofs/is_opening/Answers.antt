@@ -1,7 +1,7 @@
 use Rattle.std.proofs.Common.{rules, ◌≡◌, Bool, true, false, Ok, refl}
 use Rattle.charset.specs.declared.Reading.TheVariants.{Open}
 use Rattle.charset.proofs.FrontLemmas.{one_reading}
-use Rattle.forms.specs.ChosenLaws.{chosen_laws}
+use Rattle.forms.specs.Laws.Chosen.{chosen_laws}
 use Rattle.forms.proofs.is_opening.Goals as goal
 use Rattle.forms.proofs.is_opening.Goals.{in_default-via-in-Ok+in_default}
 use Rattle.forms.proofs.is_opening.Goals.{in_default-via-in_default}
