@@ -1,6 +1,6 @@
 -- Characters that lead from one set into another, and what ends them.
-use Rattle.std.specs.Prelude.{◌≡◌, ℕ, ◌+◌, ◌<◌, ◌≤◌, List, ◌++◌, length, Some, None, Ok, Err}
-use Rattle.std.specs.Prelude.{Result}
+use Rattle.std.specs.Prelude.{◌≡◌, ℕ, ◌+◌, ◌<◌, ◌≤◌, List, ◌++◌, length}
+use Rattle.std.specs.Prelude.{Some, None, Ok, Err, Result}
 use Rattle.charset.specs.declared.Reading.TheVariants.{Found, Open}
 use Rattle.charset.specs.Meaning.{Meaning}
 use Rattle.charset.specs.Answers.{Reads}
@@ -28,7 +28,8 @@ pub record Leads (S T : Meaning) (input : List ℕ) (room : ℕ)
 abbrev pub Stops : Meaning → Meaning → List ℕ → ℕ → ℕ → End → Type 0
 Stops S T rest used room (Ok pause.Open) = Reads S rest (Ok Open)
 Stops S T rest used room (Ok pause.Full) =
-    (c n : ℕ) × (v : List ℕ) × Reads S rest (Ok (Found c n)) × (T.codings.string c ≡ Some v)
+    (c n : ℕ) × (v : List ℕ) × Reads S rest (Ok (Found c n))
+    × (T.codings.string c ≡ Some v)
     × (room < used + length v)
 Stops S T rest used room (Err (Unwritten c)) =
     (n : ℕ) × Reads S rest (Ok (Found c n)) × (T.codings.string c ≡ None)

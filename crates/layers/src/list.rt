@@ -1,10 +1,11 @@
 // A subrepertoire's list of characters.
-ghost use Rattle.std.specs.Prelude.{◌≡◌, ◌<◌, length, IfOk, IfErr, OnOk, OnErr, MatchOption};
+ghost use Rattle.std.specs.Prelude.{◌≡◌, ◌<◌, length, IfOk, IfErr, OnOk, OnErr};
+ghost use Rattle.std.specs.Prelude.{MatchOption};
 ghost use Rattle.layers.specs.declared.list.ListRefusal.TheVariants.{NoMemory};
 ghost use Rattle.layers.specs.CharacterList.{required, on_list, rises_at, Rising, Complete, Sound};
 ghost use Rattle.layers.specs.Refusals.{list_told};
 ghost use Rattle.layers.specs.Filled.{FirstNotRising, FirstMissing, FirstUncoded, AllCoded};
-ghost use Rattle.layers.specs.Filled.{Acceptable, Ground, RefusedAs, OneAnswer};
+ghost use Rattle.layers.specs.Filled.{Acceptable, HasGround, RefusedAs, OneAnswer};
 
 use charset::CharacterSet;
 use std::alloc::{AllocError, Global};
@@ -125,7 +126,7 @@ impl CharacterList {
 // Whether numbers make a list, whatever memory there is, or why not.
 fn check<S: CharacterSet>(numbers: &[u32], set: &S) -> Result<(), ListRefusal>
     ensures fit { OnOk result (Acceptable (S.codings set.now) numbers.now) }
-    ensures refused { IfErr result (λ why. Ground (S.codings set.now) numbers.now (list_told why)) }
+    ensures refused { IfErr result (HasGround (S.codings set.now) numbers.now) }
 {
     if numbers.len() > MOST_CHARACTERS {
         return Err(ListRefusal::TooMany);
