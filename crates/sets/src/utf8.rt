@@ -10,9 +10,9 @@ use crate::cause::Cause;
 use crate::reading::found;
 use charset::{CharacterSet, Coding, Reading, SetRefusal};
 
-/// UTF-8, by RFC 3629: one to four octets, no overlong forms, no surrogates, nothing above U+10FFFF.
-/// The openings are the proper beginnings of codings. All else is refused with 33, at the shortest
-/// beginning from which no coding can come about.
+/// UTF-8, by RFC 3629: one to four octets, no overlong forms, no surrogates, nothing above
+/// U+10FFFF. The openings are the proper beginnings of codings. All else is refused with 33, at the
+/// shortest beginning from which no coding can come about.
 #[derive(Clone, Copy)]
 pub struct Utf8;
 
