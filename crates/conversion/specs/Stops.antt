@@ -10,6 +10,7 @@ use Rattle.conversion.specs.declared.Fault.TheVariants.{Unread, Unwritten, Unfin
 use Rattle.conversion.specs.declared.Pause.{Pause}
 use Rattle.conversion.specs.declared.Pause.TheVariants as pause
 
+-- why a conversion ends
 abbrev pub End : Type 0
 End = Result Pause Fault
 
@@ -22,6 +23,10 @@ pub record Leads (S T : Meaning) (input : List ℕ) (room : ℕ)
   pub begins : input ≡ source ++ rest
   pub fits : length target ≤ room
 
+-- the character c stands in front, and has no coding in the target set
+abbrev pub IsUnwritable : Meaning → Meaning → List ℕ → ℕ → Type 0
+IsUnwritable S T rest c = (n : ℕ) × Reads S rest (Ok (Found c n)) × (T.codings.string c ≡ None)
+
 -- what comes next is an end: with used bytes of the output written,
 -- the rest is an opening; or the target coding of its first character does not fit; or that
 -- character has none; or nothing can be read
@@ -31,8 +36,7 @@ Stops S T rest used room (Ok pause.Full) =
     (c n : ℕ) × (v : List ℕ) × Reads S rest (Ok (Found c n))
     × (T.codings.string c ≡ Some v)
     × (room < used + length v)
-Stops S T rest used room (Err (Unwritten c)) =
-    (n : ℕ) × Reads S rest (Ok (Found c n)) × (T.codings.string c ≡ None)
+Stops S T rest used room (Err (Unwritten c)) = IsUnwritable S T rest c
 Stops S T rest used room (Err (Unread q)) = Reads S rest (Err q)
 Stops S T rest used room (Err Unfinished) = ⊥
 

@@ -1,5 +1,5 @@
-//! ISO/IEC 6937:1994, Table 4: what the supplementary set codes in one byte, and the letters of each
-//! diacritic.
+//! ISO/IEC 6937:1994, Table 4: what the supplementary set codes in one byte, and the letters of
+//! each diacritic.
 ghost use Rattle.std.specs.Prelude.{◌≡◌, ℕ, is_some};
 ghost use Rattle.std.specs.Option.{option_map};
 ghost use Rattle.sets.specs.Columns.{byte_of};
@@ -119,8 +119,8 @@ pub fn single_byte(character: u32) -> Option<u8>
     SUPPLEMENTARY.byte_of(character)
 }
 
-/// The letters that a diacritic may stand before, with the code point of each pair; `None` where the
-/// byte is no diacritic.
+/// The letters that a diacritic may stand before, with the code point of each pair; `None` where
+/// the byte is no diacritic.
 pub fn letters_of(mark: u8) -> Option<&'static [(u8, u32)]>
     ensures diacritics { is_some result ≡ is_some (letters_of mark) }
     ensures pairs { (letter : ℕ) →
