@@ -12,4 +12,4 @@ mod utf8;
 pub use cause::Cause;
 pub use iso6937::Iso6937;
 pub use single_byte::SingleByte;
-pub use utf8::Utf8;
+pub use utf8::{Utf8, openings_begin_codings};

