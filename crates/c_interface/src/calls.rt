@@ -1,4 +1,4 @@
-//! The calls on a record, which a refused call leaves as it was but where the transcript refuses.
+//! The calls on a record.
 ghost use Rattle.std.specs.Prelude.{◌≡◌, IfOk, IfErr};
 ghost use Rattle.roll.specs.Forms.{form_number};
 ghost use Rattle.c_interface.specs.Records.{NoForm};

@@ -32,8 +32,9 @@ pub struct StatusRecord {
 pub struct TranscriptRecord {
     /// What it has come to.
     pub status: StatusRecord,
-    /// The numbers of its forms, 1 to 7.
+    /// The number of its source form, 1 to 7.
     pub source: u8,
+    /// The number of its target form, 1 to 7.
     pub target: u8,
     /// The bytes that are held, with 0 behind them.
     pub bytes: [u8; 4],
