@@ -58,7 +58,8 @@ OpenAtFour m p x =
     (length p ≡ 3) × (t : List ℕ) × IsOpening m t × BeginsShifted t (p ++ x ∷ [])
 
 -- p and x are, in a form, a string that has a cause below
-abbrev pub FailsBelow : Meaning → (InForm : List ℕ → List ℕ → Type 0) → List ℕ → ℕ → Type 0
+abbrev pub FailsBelow : Meaning → (InForm : List ℕ → List ℕ → Type 0) → List ℕ → ℕ
+    → Type 0
 FailsBelow m InForm p x = (t : List ℕ) × InForm t (p ++ x ∷ []) × Unreadable m t
 
 -- a character that is not on the list stands in front
