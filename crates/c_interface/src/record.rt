@@ -6,7 +6,7 @@ ghost use Rattle.c_interface.specs.Records.{NoFault, NoState, NoStatus};
 
 use charset::SetRefusal;
 use conversion::Fault;
-use transcript::{Done, FaultAt, State, Status, Told};
+use transcript::{Done, FaultAt, Place, State, Status, Told};
 
 // `finetalc_progress`: what a transcript has come to since it was started.
 #[repr(C)]
@@ -61,14 +61,14 @@ fn fault_of(told: &Told) -> Option<FaultAt>
         9 if told.taken == 0 && told.written == 0 => Fault::Unfinished,
         _ => return None,
     };
-    let at = FaultAt {
-        fault,
+    let place = Place {
         offset: told.offset,
         done: Done {
             taken: told.taken,
             written: told.written,
         },
     };
+    let at = FaultAt::from((fault, place));
     (fault_record(at) == *told).then_some(at)
 }
 

@@ -1,4 +1,5 @@
-// The character sets that stand on no other: ISO/IEC 6937, ISO/IEC 8859-16, the Sami set and UTF-8.
+//! The character sets that stand on no other: ISO/IEC 6937, ISO/IEC 8859-16, the Sami set and
+//! UTF-8.
 #![tactic(auto)]
 
 mod cause;

@@ -1,3 +1,4 @@
+pub mod Places
 pub mod Told
 pub mod Calls
 pub mod Snapshots

@@ -1,6 +1,7 @@
 // What a transcript answers.
 ghost use Rattle.std.specs.Prelude.{◌≡◌};
 ghost use Rattle.transcript.specs.declared.answers.Refusal.TheVariants.{Faulted};
+ghost use Rattle.transcript.specs.Places.{placed};
 ghost use Rattle.transcript.specs.Told.{alone, fault_number, with_fault, told};
 
 use charset::SetRefusal;
@@ -13,12 +14,33 @@ pub struct Done {
     pub written: usize,
 }
 
+// A place in the source, and what the offer that came there took and wrote.
+#[derive(Clone, Copy, PartialEq, Eq, Debug)]
+pub struct Place {
+    pub offset: u64,
+    pub done: Done,
+}
+
 // A fault, where it stands in the source, and what the offer that met it took and wrote.
 #[derive(Clone, Copy, PartialEq, Eq, Debug)]
 pub struct FaultAt {
     pub fault: Fault,
     pub offset: u64,
     pub done: Done,
+}
+
+// The fault at that place.
+impl From<(Fault, Place)> for FaultAt {
+    ghost from_gives = { λ e r. r ≡ placed e.0 e.1 };
+
+    fn from((fault, place): (Fault, Place)) -> FaultAt {
+        let Place { offset, done } = place;
+        FaultAt {
+            fault,
+            offset,
+            done,
+        }
+    }
 }
 
 // A transcript is open until a fault or a closing.

@@ -57,22 +57,22 @@ impl<S: CharacterSet, T: CharacterSet> Transcript<S, T> {
         ensures { Calls self.old call.entry self.new call.exit result }
     {
         match (self.progress.state, call) {
+            (State::Open, Call::Offer { sector, output }) => {
+                self.feed(sector, output).map(Answer::Offered)
+            }
+            (State::Open, Call::Close) => {
+                self.progress.finish()?;
+                Ok(Answer::Closed)
+            }
+            (State::Faulted(fault), Call::Offer { .. } | Call::Close) => {
+                Err(Refusal::Standing(fault))
+            }
+            (State::Closed, Call::Offer { .. } | Call::Close) => Err(Refusal::AlreadyClosed),
             (_, Call::Start) => {
                 self.progress = Progress::fresh();
                 Ok(Answer::Started)
             }
             (_, Call::Status) => Ok(Answer::Told(self.progress.status())),
-            (State::Closed, _) => Err(Refusal::AlreadyClosed),
-            // Two arms: the checker does not cover one that binds the fault for both calls.
-            (State::Faulted(fault), Call::Offer { .. }) => Err(Refusal::Standing(fault)),
-            (State::Faulted(fault), Call::Close) => Err(Refusal::Standing(fault)),
-            (State::Open, Call::Close) => {
-                self.progress.finish()?;
-                Ok(Answer::Closed)
-            }
-            (State::Open, Call::Offer { sector, output }) => {
-                self.feed(sector, output).map(Answer::Offered)
-            }
         }
     }
 

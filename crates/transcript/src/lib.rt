@@ -9,7 +9,7 @@ mod progress;
 mod resume;
 mod transcription;
 
-pub use answers::{Answer, Done, FaultAt, Refusal, State, Status, Told, fault_number};
+pub use answers::{Answer, Done, FaultAt, Place, Refusal, State, Status, Told, fault_number};
 pub use by_law::offer_by_law;
 pub use calls::{Call, Transcript};
 pub use progress::Progress;

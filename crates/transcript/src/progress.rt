@@ -3,7 +3,7 @@
 ghost use Rattle.std.specs.Prelude.{◌+◌, ◌*◌, ◌≤◌, length};
 ghost use Rattle.transcript.specs.declared.TheConstants.{LONGEST_SOURCE};
 
-use crate::answers::{Done, FaultAt, Refusal, State, Status};
+use crate::answers::{Done, FaultAt, Place, Refusal, State, Status};
 use crate::{LONGEST_OUTPUT, LONGEST_SECTOR, LONGEST_SOURCE};
 use charset::Front;
 use conversion::{Fault, Pause, Run};
@@ -105,11 +105,7 @@ impl Progress {
             Ok(Pause::Open) => Ok(done),
             Ok(Pause::Full) => Err(Refusal::Full(done)),
             Err(fault) => {
-                let standing = FaultAt {
-                    fault,
-                    offset,
-                    done,
-                };
+                let standing = FaultAt::from((fault, Place { offset, done }));
                 self.state = State::Faulted(standing);
                 Err(standing.into())
             }
@@ -125,11 +121,11 @@ impl Progress {
             self.state = State::Closed;
             return Ok(());
         }
-        let unfinished = FaultAt {
-            fault: Fault::Unfinished,
+        let place = Place {
             offset: self.taken - held as u64,
             done: Done::default(),
         };
+        let unfinished = FaultAt::from((Fault::Unfinished, place));
         self.state = State::Faulted(unfinished);
         Err(unfinished.into())
     }

@@ -1,6 +1,8 @@
 -- At an offer, the call as it is seen at the return computes once the call is rewritten to its
 -- case.
-use Rattle.std.proofs.Common.{◌≡◌, ℕ, List, Ok, Err, Result, sym, refl, ap, subst, rules}
+use Rattle.std.proofs.Common.{◌≡◌, ℕ, ◌⊎◌, List, Ok, Err, Result, sym, refl, ap, subst, rules, inl}
+use Rattle.std.proofs.Common.{inr}
+use Rattle.std.specs.Borrow.{Bor, MutBor}
 use Rattle.std.specs.Result.{MatchResult}
 use Rattle.std.proofs.lemmas.Result.{MatchResult-weaker}
 use Rattle.charset.specs.Meaning.{Meaning}
@@ -10,6 +12,8 @@ use Rattle.transcript.specs.declared.answers.Answer.TheVariants as answer
 use Rattle.transcript.specs.declared.answers.Refusal.{Refusal}
 use Rattle.transcript.specs.declared.answers.Refusal.TheVariants.{AlreadyClosed, Standing}
 use Rattle.transcript.specs.declared.answers.State.TheVariants.{Open}
+use Rattle.transcript.specs.declared.calls.Call.{Call}
+use Rattle.transcript.specs.declared.calls.Call.TheVariants as call
 use Rattle.transcript.specs.Calls.{Snapshot, OfferAnswer, CloseAnswer, limits, OfferedIf, refused}
 use Rattle.transcript.specs.Calls.{ClosedOn}
 use Rattle.transcript.specs.Snapshots.{snapshot}
@@ -18,9 +22,24 @@ use Rattle.transcript.specs.Called.{offered, closed}
 use Rattle.transcript.proofs.Stepping.{steps, closes, offers}
 use Rattle.transcript.proofs.calls.Transcript.call.Goals as goal
 
+-- an offer or a closing
+abbrev OfferOrClose : Call → Type 0
+OfferOrClose call.Start = ⊥
+OfferOrClose (call.Offer i o) = Unit {0}
+OfferOrClose call.Close = Unit {0}
+OfferOrClose call.Status = ⊥
+
+by_call : (z : Call) → OfferOrClose z
+    → ((i : Bor (List ℕ)) × (o : MutBor (List ℕ)) × (z ≡ call.Offer i o)) ⊎ (z ≡ call.Close)
+by_call call.Start w = absurd w
+by_call (call.Offer i o) w = inl (i, o, refl)
+by_call call.Close w = inr refl
+by_call call.Status w = absurd w
+
 pub returns-in_default-Start : goal.returns-in_default-Start
 returns-in_default-Start g c =
-    rw c.in_default-Start.is-1 (record {
+    let is : c.args.call ≡ call.Start = search rules in
+    rw is (record {
       event = start;
       is_event = (refl, refl);
       steps = steps _ _ start (search rules) (search rules);
@@ -28,31 +47,30 @@ returns-in_default-Start g c =
 
 pub returns-in_default-Status : goal.returns-in_default-Status
 returns-in_default-Status g c =
-    rw c.in_default-Status.is-1 (record {
+    let is : c.args.call ≡ call.Status = search rules in
+    rw is (record {
       event = status c.status.result;
       is_event = (c.status.result, refl, refl);
       steps = steps _ _ (status c.status.result) (search rules) (c.status.ensures, refl);
     })
 
-pub returns-in-Closed-default : goal.returns-in-Closed-default
-returns-in-Closed-default g c =
-    rw c.in-Closed-default.is-1 (offers _ _ _ _ _ (Err AlreadyClosed) _ refl (search rules)
-    (rw c.in-Closed-default.is-0 (refl, search rules, refl)))
-
-pub returns-in-Closed-default-2 : goal.returns-in-Closed-default-2
-returns-in-Closed-default-2 g c =
-    rw c.in-Closed-default.is-1 (closes _ _ _ (Err AlreadyClosed) _ refl (search rules)
-    (rw c.in-Closed-default.is-0 (refl, refl)))
+pub returns-in-Closed-Offer : goal.returns-in-Closed-Offer
+returns-in-Closed-Offer g c =
+    elim (by_call c.args.call (search rules)) [
+      | inl w ↦ rw w.2 (offers _ _ _ _ _ (Err AlreadyClosed) _ refl (search rules)
+          (rw c.in-Closed-Offer.is-0 (refl, search rules, refl)))
+      | inr w ↦ rw w (closes _ _ _ (Err AlreadyClosed) _ refl (search rules)
+          (rw c.in-Closed-Offer.is-0 (refl, refl)))
+    ]
 
 pub returns-in-Faulted-Offer : goal.returns-in-Faulted-Offer
 returns-in-Faulted-Offer g c =
-    rw c.in-Faulted-Offer.is-1 (offers _ _ _ _ _ (Err (Standing c.in-Faulted-Offer.fault)) _ refl
-    (search rules) (rw c.in-Faulted-Offer.is-0 (refl, refl, refl)))
-
-pub returns-in-Faulted-Close : goal.returns-in-Faulted-Close
-returns-in-Faulted-Close g c =
-    rw c.in-Faulted-Close.is-1 (closes _ _ _ (Err (Standing c.in-Faulted-Close.fault)) _ refl
-    (search rules) (rw c.in-Faulted-Close.is-0 (refl, refl)))
+    elim (by_call c.args.call (search rules)) [
+      | inl w ↦ rw w.2 (offers _ _ _ _ _ (Err (Standing c.in-Faulted-Offer.fault)) _ refl
+          (search rules) (rw c.in-Faulted-Offer.is-0 (refl, refl, refl)))
+      | inr w ↦ rw w (closes _ _ _ (Err (Standing c.in-Faulted-Offer.fault)) _ refl
+          (search rules) (rw c.in-Faulted-Offer.is-0 (refl, refl)))
+    ]
 
 -- the closing of an open transcript
 closed_open : (s t : Snapshot) (r : CloseAnswer) → s.state ≡ Open → ClosedOn Open s.held s r t
