@@ -6,7 +6,7 @@ use Rattle.charset.specs.declared.SetRefusal.{SetRefusal}
 use Rattle.charset.specs.declared.Reading.{Reading}
 use Rattle.charset.specs.declared.Reading.TheVariants.{Found, Open}
 use Rattle.charset.specs.Meaning.{Meaning}
-use Rattle.charset.specs.Answers.{Reads, Writes}
+use Rattle.charset.specs.Answers.{Reads, Writes, reading}
 use Rattle.conformance.specs.Numbers.{number_of}
 use Rattle.conformance.specs.declared.vector.Question.{Question}
 use Rattle.conformance.specs.declared.vector.Question.TheVariants as question
@@ -40,6 +40,11 @@ TellsWriting m n r = (a : Option (List ℕ)) × Writes m n a × (r ≡ told_codi
 -- the string of so many hexadecimal digits, or of eight, that a number stands for
 abbrev pub string_of : (width number : ℕ) → List ℕ
 string_of width n = drop (4 - width / 2) (to_be_bytes w32 n)
+
+-- the answer to a question put to n
+abbrev pub answer_to : Meaning → Question → ℕ → Reply
+answer_to m (question.Read width) n = told_reading (reading m (string_of width n))
+answer_to m question.Write n = told_coding (m.codings.string n)
 
 -- r tells what is answered to a question put to n
 abbrev pub Tells : Meaning → Question → ℕ → Reply → Type 0

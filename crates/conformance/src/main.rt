@@ -45,11 +45,12 @@ impl Count {
         let mut run = Stretch::at(vector, vector.from)?;
         for number in vector.from..=vector.to {
             let next = Stretch::at(vector, number)?;
-            if next.ours != run.ours {
+            if let Some(longer) = run.followed_by(next) {
+                run = longer;
+            } else {
                 self.add(rt, &run)?;
                 run = next;
             }
-            run.to = number;
         }
         self.add(rt, &run)
     }

@@ -1,8 +1,9 @@
 // A run of a vector's questions to which our answer is the same.
-ghost use Rattle.std.specs.Prelude.{◌≡◌, ◌+◌, ◌-◌, true, IfOk};
+ghost use Rattle.std.specs.Prelude.{◌≡◌, ◌≢◌, ◌+◌, ◌-◌, ◌≤◌};
+ghost use Rattle.std.specs.Prelude.{true, IfOk, MatchOption};
 ghost use Rattle.conformance.specs.Agreement.{Tells};
 ghost use Rattle.conformance.specs.Differences.{first_byte, Apart, ApartInReading, ApartInWriting};
-ghost use Rattle.conformance.specs.Held.{Accounted, Agree};
+ghost use Rattle.conformance.specs.Held.{Accounted, AllAgree, AnsweredBy};
 ghost use Rattle.conformance.specs.Meanings.{named_meaning};
 
 use crate::answer::Reply;
@@ -13,10 +14,12 @@ use std::fmt;
 
 #[derive(Clone, Copy)]
 pub struct Stretch<'a> {
-    pub vector: &'a Vector,
-    pub from: u32,
-    pub to: u32,
-    pub ours: Reply,
+    vector: &'a Vector,
+    from: u32,
+    to: u32,
+    ours: Reply,
+    ghost some: { from ≤ to },
+    ghost answered: { AnsweredBy vector.now from to ours },
 }
 
 impl<'a> Stretch<'a> {
@@ -25,6 +28,8 @@ impl<'a> Stretch<'a> {
         ensures told { IfOk result (λ run.
             Tells (named_meaning vector.now.set) vector.now.question number run.ours) }
         ensures accounted { IfOk result (λ run. Accounted vector.now number run.ours) }
+        ensures alone { IfOk result (λ run.
+            (run.vector.now ≡ vector.now) × (run.from ≡ number) × (run.to ≡ number)) }
     {
         let run = Stretch {
             vector,
@@ -38,11 +43,31 @@ impl<'a> Stretch<'a> {
         Ok(run)
     }
 
-    // Whether our answer, which is the same to all numbers of the run, agrees with theirs.
+    // The run with the next one behind it, if our answer to both is the same.
+    pub(crate) fn followed_by(self, next: Stretch<'a>) -> Option<Stretch<'a>>
+        requires one_vector { next.vector.now ≡ self.vector.now }
+        requires behind { self.from ≤ next.from }
+        requires follows { next.from ≤ self.to + 1 }
+        ensures { MatchOption result (next.entry.ours ≢ self.entry.ours) (λ run.
+            (run.vector.now ≡ self.entry.vector.now) × (run.from ≡ self.entry.from)
+            × (run.to ≡ next.entry.to) × (run.ours ≡ self.entry.ours)) }
+    {
+        if next.ours != self.ours {
+            return None;
+        }
+        Some(Stretch {
+            vector: self.vector,
+            from: self.from,
+            to: next.to,
+            ours: self.ours,
+        })
+    }
+
+    // Whether our answers to the numbers of the run agree with theirs.
     pub(crate) fn agrees(&self) -> bool
-        ensures only_if_they_agree { result ≡ true →
-            Agree self.now.ours self.now.vector.now.answer }
-        ensures whenever_they_agree { Agree self.now.ours self.now.vector.now.answer →
+        ensures only_if_all_agree { result ≡ true →
+            AllAgree self.now.vector.now self.now.from self.now.to }
+        ensures whenever_all_agree { AllAgree self.now.vector.now self.now.from self.now.to →
             result ≡ true }
     {
         self.ours.agrees(self.vector.answer)

@@ -1,6 +1,8 @@
 // A vector: a question about a run of strings or numbers, and the other converter's answer.
 ghost use Rattle.charset.specs.Sets.{set_of};
-ghost use Rattle.conformance.specs.Agreement.{TellsReading, Tells};
+ghost use Rattle.std.specs.Prelude.{◌≡◌};
+ghost use Rattle.conformance.specs.Agreement.{TellsReading, Tells, answer_to};
+ghost use Rattle.conformance.specs.Held.{our_answer};
 ghost use Rattle.conformance.specs.Meanings.{named_meaning};
 
 use crate::answer::Reply;
@@ -153,7 +155,8 @@ fn reading_of<S: CharacterSet>(set: &S, bytes: &[u8]) -> Reply
 }
 
 fn ask<S: CharacterSet>(set: &S, question: Question, number: u32) -> Reply
-    ensures { Tells (set_of S.CharacterSet set.now) question number result }
+    ensures tells { Tells (set_of S.CharacterSet set.now) question number result }
+    ensures only { answer_to (set_of S.CharacterSet set.now) question number ≡ result }
 {
     match question {
         Question::Read { width } => {
@@ -168,7 +171,8 @@ fn ask<S: CharacterSet>(set: &S, question: Question, number: u32) -> Reply
 impl Vector {
     // What our set answers to one question of the run. A `match`: each set is a type of its own.
     pub(crate) fn ask(&self, number: u32) -> Reply
-        ensures { Tells (named_meaning self.now.set) self.now.question number result }
+        ensures tells { Tells (named_meaning self.now.set) self.now.question number result }
+        ensures only { our_answer self.now number ≡ result }
     {
         match self.set {
             Set::Iso6937 => ask(&Iso6937, self.question, number),
