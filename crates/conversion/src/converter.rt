@@ -3,9 +3,9 @@ ghost use Rattle.std.specs.Prelude.{◌≡◌, ◌++◌};
 ghost use Rattle.conversion.specs.Pairs.{IsRightFor};
 ghost use Rattle.conversion.specs.Runs.{Runs};
 
-use crate::Run;
 use crate::met::MetCodings;
 use crate::two_sets::TwoSets;
+use crate::{Fault, Pause, Run};
 use charset::{CharacterSet, Front};
 
 // The two sets, and the codings that were met.
@@ -29,13 +29,19 @@ impl<S: CharacterSet, T: CharacterSet> Converter<S, T> {
     }
 
     // The held bytes and then the sector, character after character, into the output, until
-    // something ends it.
-    pub fn convert(&mut self, held: Front, sector: &[u8], output: &mut [u8]) -> Run
+    // something ends it. How far it came stands in `run`, whatever ends it.
+    pub fn convert(
+        &mut self,
+        held: Front,
+        sector: &[u8],
+        output: &mut [u8],
+        run: &mut Run,
+    ) -> Result<Pause, Fault>
         ensures same_sets { SameSets self.old self.new }
         ensures runs { Runs (source self.old) (target self.old)
-            (held ++ sector.now) output.old output.new result }
+            (held ++ sector.now) output.old output.new run.new result }
     {
         self.sets.prepare(sector.len());
-        self.sets.run(&mut self.met, held, sector, output)
+        self.sets.run(&mut self.met, held, sector, output, run)
     }
 }

@@ -50,13 +50,12 @@ pub enum Advance {
     Paused(Pause),
 }
 
-// How far a conversion came, and what ended it.
-#[derive(Clone, Copy)]
+// How far a conversion came.
+#[derive(Clone, Copy, Default)]
 pub struct Run {
     pub characters: usize,
     pub read: usize,
     pub written: usize,
-    pub end: Result<Pause, Fault>,
 }
 
 // The target coding of the character in front of the input, and how many bytes the character is
