@@ -105,9 +105,9 @@ impl Progress {
         self.characters += run.characters as u64;
         self.written += done.written as u64;
         self.held = rest;
-        let end = end.map_err(|fault| FaultAt::from((fault, Place { offset, done })));
-        self.state = end.map_or_else(State::Faulted, |_| State::Open);
-        match end? {
+        let placed = end.map_err(|fault| FaultAt::from((fault, Place { offset, done })));
+        self.state = placed.map_or_else(State::Faulted, |_| State::Open);
+        match placed? {
             Pause::Open => Ok(done),
             Pause::Full => Err(Refusal::Full(done)),
         }
