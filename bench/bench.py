@@ -1,7 +1,8 @@
 #!/usr/bin/env python3
-"""Holds recode, and the example client of the C interface, against the system's iconv on the same texts, and prints docs/PERFORMANCE.md:
-instructions per byte by callgrind, megabytes per second as the median of several runs, growth with the size, and peak memory. It stops
-where they do not write the same bytes.
+"""Holds recode, and the example client of the C interface, against the system's iconv on the same
+texts, and prints docs/PERFORMANCE.md: instructions per byte by callgrind, megabytes per second as
+the median of several runs, growth with the size, and peak memory. It stops where they do not write
+the same bytes.
 
     make bench                        builds the programs, and prints
     bench/bench.py > docs/PERFORMANCE.md
@@ -14,106 +15,196 @@ import statistics
 import subprocess
 import sys
 import tempfile
+import textwrap
 import time
+from typing import NamedTuple
 
-from texts import text, with_parity
+from texts import CZECH, GERMAN, text, with_parity, words
 
 TOP = pathlib.Path(__file__).resolve().parent.parent
-RECODE = TOP / "target/bin/recode"
-CLIENT = TOP / "target/transcribe"
+RECODE = str(TOP / "target/bin/recode")
+CLIENT = str(TOP / "target/transcribe")
 MIB = 1 << 20
 RUNS = 9
+SIZES = (1 << 10, 1 << 14, 1 << 17, MIB, 4 * MIB, 16 * MIB)
+
+HEAD = """
+`recode` beside glibc's `iconv`, each as its users run it: a text of 1 MiB from a file to nowhere.
+`recode` goes through a transcript in sectors of 4,096 bytes. So does `examples/transcribe.c`, the
+client of the [C interface](C-INTERFACE.md). Made by `make bench`; `make test` times nothing.
+
+Machine: {machine}.
+
+Instructions per byte are those of callgrind, without what an empty text takes; MB/s the median of
+{runs} runs. The first four texts have one accent before five vowels; the German and the Czech are
+common words by chance.
+"""
 NOTES = """
-A run of bytes that stand alone in both sets goes by a table of 256 that a transcript fills at its first sector of 256 bytes or more, which is what the
-shortest text here pays for. Two bytes that code an accented letter, or three, are looked up among those that were met before. `recode` holds the whole text and what
-it writes in memory. The C interface keeps nothing between calls, so it fills the table anew for each sector, and meets each coding anew.
-Callgrind counts each step of an instruction that fills or copies memory, of which the C client has more."""
+A run of bytes that stand alone in both sets goes by a table of 256 that a transcript fills at its
+first sector of 256 bytes or more, which is what the shortest text here pays for. Two bytes that
+code an accented letter, or three, are looked up among those that were met before. A letter that
+shares its place there with another, as a capital does with its small letter, is met anew each time
+the two change, and a source byte that becomes two is never kept: such texts cost more.
+
+`recode` holds the whole text and what it writes in memory. The C interface keeps nothing between
+calls, so it fills the table anew for each sector, and meets each coding anew. Callgrind counts each
+step of an instruction that fills or copies memory, of which the C client has more.
+"""
 
 
-def run(words, source):
-    return subprocess.run(words, input=source, stdout=subprocess.PIPE, stderr=subprocess.DEVNULL, check=True).stdout
+class Race(NamedTuple):
+    """One text, in the form that ours read and in the form that iconv reads."""
+
+    name: str
+    source: str
+    target: str
+    ours: bytes
+    iconv: list
+    theirs: bytes
 
 
-def instructions(words, source):
+def run(command, source):
+    """What a command writes."""
+    ran = subprocess.run(
+        command, input=source, stdout=subprocess.PIPE, stderr=subprocess.DEVNULL, check=True
+    )
+    return ran.stdout
+
+
+def instructions(command, source):
     with tempfile.NamedTemporaryFile() as out:
-        ran = subprocess.run(["valgrind", "--tool=callgrind", f"--callgrind-out-file={out.name}", *words], input=source, capture_output=True, check=True)
+        callgrind = ["valgrind", "--tool=callgrind", f"--callgrind-out-file={out.name}"]
+        ran = subprocess.run(callgrind + command, input=source, capture_output=True, check=True)
     return int(re.search(rb"I\s+refs:\s+([\d,]+)", ran.stderr).group(1).replace(b",", b""))
 
 
-def per_byte(words, source):
+def per_byte(command, source):
     """Instructions per byte, without what an empty text takes."""
-    return (instructions(words, source) - instructions(words, b"")) / len(source)
+    return (instructions(command, source) - instructions(command, b"")) / len(source)
 
 
-def speed(words, file, size):
+def speed(command, file):
     """Megabytes per second, from file to nowhere, the median of the runs."""
     times = []
     for _ in range(RUNS):
         with open(file, "rb") as source:
             start = time.perf_counter()
-            subprocess.run(words, stdin=source, stdout=subprocess.DEVNULL, stderr=subprocess.DEVNULL, check=True)
+            subprocess.run(
+                command,
+                stdin=source,
+                stdout=subprocess.DEVNULL,
+                stderr=subprocess.DEVNULL,
+                check=True,
+            )
             times.append(time.perf_counter() - start)
-    return size / statistics.median(times) / 1e6
+    return file.stat().st_size / statistics.median(times) / 1e6
 
 
-def peak(words, file):
+def peak(command, file):
     """Peak memory in KiB, by GNU time: what this script itself takes must not count."""
     with open(file, "rb") as source:
-        ran = subprocess.run(["/usr/bin/time", "-f", "%M", *words], stdin=source, stdout=subprocess.DEVNULL, stderr=subprocess.PIPE, check=True)
+        ran = subprocess.run(
+            ["/usr/bin/time", "-f", "%M", *command],
+            stdin=source,
+            stdout=subprocess.DEVNULL,
+            stderr=subprocess.PIPE,
+            check=True,
+        )
     return int(ran.stderr.split()[-1])
 
 
 def machine():
     model = re.search(r"model name\s*: (.*)", pathlib.Path("/proc/cpuinfo").read_text())
-    glibc = platform.libc_ver()[1]
+    processor = model.group(1) if model else platform.machine()
     kit = re.search(r"rattle-kit\S* logic \S+", (TOP / "README.md").read_text()).group()
-    return f"{model.group(1) if model else platform.machine()}, {os.cpu_count()} processors, Linux {platform.release()}, glibc {glibc}, {kit}"
+    glibc = platform.libc_ver()[1]
+    system = f"{os.cpu_count()} processors, Linux {platform.release()}, glibc {glibc}"
+    return f"{processor}, {system}, {kit}"
+
+
+def paragraphs(prose):
+    """Each paragraph filled to 100 columns."""
+    return "\n\n".join(
+        textwrap.fill(p, 100, break_long_words=False, break_on_hyphens=False)
+        for p in prose.strip().split("\n\n")
+    )
+
+
+def races():
+    read = ["iconv", "-f", "ISO_6937", "-t", "UTF-8"]
+    write = ["iconv", "-f", "UTF-8", "-t", "ISO_6937"]
+    accented = text(MIB, b"\xc2")
+    plain = text(MIB, b"")
+    unicode = run(read, accented)
+    parity = with_parity(text(MIB, b"\x19\x42"))
+    german, czech = words(MIB, GERMAN), words(MIB, CZECH)
+    return [
+        Race("ISO/IEC 6937 into UTF-8, one letter in eight accented", "1", "6",
+             accented, read, accented),
+        Race("the same, plain ASCII", "1", "6", plain, read, plain),
+        Race("UTF-8 into ISO/IEC 6937, the first text", "6", "1", unicode, write, unicode),
+        Race("form 3 (7 bits, parity) into UTF-8; iconv on the first text", "3", "6",
+             parity, read, accented),
+        Race("German, UTF-8 into ISO/IEC 6937", "6", "1", german, write, german),
+        Race("German, ISO/IEC 6937 into UTF-8", "1", "6",
+             run(write, german), read, run(write, german)),
+        Race("Czech, UTF-8 into ISO/IEC 6937", "6", "1", czech, write, czech),
+        Race("Czech, ISO/IEC 6937 into UTF-8", "1", "6",
+             run(write, czech), read, run(write, czech)),
+    ]
+
+
+def row(race, room):
+    """A row of the first table."""
+    recode = [RECODE, race.source, race.target]
+    client = [CLIENT, race.source, race.target]
+    written = run(recode, race.ours)
+    same_text = race.ours == race.theirs
+    if run(client, race.ours) != written or same_text and run(race.iconv, race.theirs) != written:
+        sys.exit(f"{race.name}: recode, the C client and iconv do not write the same")
+    ours, theirs = room / "ours", room / "theirs"
+    ours.write_bytes(race.ours)
+    theirs.write_bytes(race.theirs)
+    a, b = per_byte(recode, race.ours), per_byte(client, race.ours)
+    c = per_byte(race.iconv, race.theirs)
+    d, e, f = speed(recode, ours), speed(client, ours), speed(race.iconv, theirs)
+    return (
+        f"| {race.name} | {a:.1f} | {b:.1f} | {c:.1f} | {a / c:.2f} "
+        f"| {d:.0f} | {e:.0f} | {f:.0f} | {d / f:.2f} |"
+    )
+
+
+def growth(race, room):
+    """The rows of the second table: the first text, cut and repeated."""
+    recode = [RECODE, race.source, race.target]
+    file = room / "part"
+    for size in SIZES:
+        part = (race.ours * (size // len(race.ours) + 1))[:size]
+        part = part if part[-1] < 0x80 else part[:-1]
+        file.write_bytes(part)
+        yield (
+            f"| {len(part):,} | {per_byte(recode, part):.1f} | {per_byte(race.iconv, part):.1f} "
+            f"| {peak(recode, file):,} | {peak(race.iconv, file):,} |"
+        )
 
 
 def main():
-    accented = text(MIB, b"\xc2")
-    plain = text(MIB, b"")
-    unicode = run(["iconv", "-f", "ISO_6937", "-t", "UTF-8"], accented)
-    parity = with_parity(text(MIB, b"\x19\x42"))
-    there = ["iconv", "-f", "ISO_6937", "-t", "UTF-8"]
-    back = ["iconv", "-f", "UTF-8", "-t", "ISO_6937"]
-    rows = [
-        ("ISO/IEC 6937 into UTF-8, one letter in eight accented", "1", "6", accented, there, accented),
-        ("the same, plain ASCII", "1", "6", plain, there, plain),
-        ("UTF-8 into ISO/IEC 6937, the first text", "6", "1", unicode, back, unicode),
-        ("form 3 (7 bits, parity) into UTF-8; iconv on the first text", "3", "6", parity, there, accented),
-    ]
+    runs = races()
     print("# Performance\n")
-    print("`recode` beside glibc's `iconv`, each as its users run it: a text of 1 MiB from a file to nowhere. `recode` goes through a transcript in sectors of 4,096 bytes.")
-    print("So does `examples/transcribe.c`, the client of the [C interface](C-INTERFACE.md).")
-    print("Made by `make bench`; `make test` times nothing.\n")
-    print(f"Machine: {machine()}.\n")
-    print("Instructions per byte are those of callgrind, without what an empty text takes; MB/s the median of %d runs.\n" % RUNS)
-    print("| text | recode, instr/byte | C client | iconv | recode / iconv | recode, MB/s | C client | iconv | recode / iconv |")
+    print(paragraphs(HEAD.format(machine=machine(), runs=RUNS)) + "\n")
+    print("| text | recode, instr/byte | C client | iconv | recode / iconv "
+          "| recode, MB/s | C client | iconv | recode / iconv |")
     print("|---|---|---|---|---|---|---|---|---|")
-    with tempfile.TemporaryDirectory() as room:
-        for name, source, target, ours_text, theirs, theirs_text in rows:
-            ours = [str(RECODE), source, target]
-            client = [str(CLIENT), source, target]
-            if ours_text is theirs_text and run(ours, ours_text) != run(theirs, theirs_text) or run(client, ours_text) != run(ours, ours_text):
-                sys.exit(f"{name}: recode, the C client and iconv do not write the same")
-            files = [pathlib.Path(room) / "ours", pathlib.Path(room) / "theirs"]
-            files[0].write_bytes(ours_text)
-            files[1].write_bytes(theirs_text)
-            a, m, b = per_byte(ours, ours_text), per_byte(client, ours_text), per_byte(theirs, theirs_text)
-            c, n, d = speed(ours, files[0], len(ours_text)), speed(client, files[0], len(ours_text)), speed(theirs, files[1], len(theirs_text))
-            print(f"| {name} | {a:.1f} | {m:.1f} | {b:.1f} | {a / b:.2f} | {c:.0f} | {n:.0f} | {d:.0f} | {c / d:.2f} |", flush=True)
+    with tempfile.TemporaryDirectory() as name:
+        room = pathlib.Path(name)
+        for race in runs:
+            print(row(race, room), flush=True)
         print("\nHow the cost grows, on the first text:\n")
         print("| bytes | recode, instr/byte | iconv | recode, peak KiB | iconv |")
         print("|---|---|---|---|---|")
-        for size in (1 << 10, 1 << 14, 1 << 17, MIB, 4 * MIB, 16 * MIB):
-            part = (accented * (size // len(accented) + 1))[:size]
-            part = part if part[-1] < 0x80 else part[:-1]
-            file = pathlib.Path(room) / "part"
-            file.write_bytes(part)
-            ours = [str(RECODE), "1", "6"]
-            print(f"| {len(part):,} | {per_byte(ours, part):.1f} | {per_byte(there, part):.1f} | {peak(ours, file):,} | {peak(there, file):,} |", flush=True)
-    print(NOTES)
+        for line in growth(runs[0], room):
+            print(line, flush=True)
+    print("\n" + paragraphs(NOTES))
 
 
 if __name__ == "__main__":

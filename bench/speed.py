@@ -1,5 +1,6 @@
 #!/usr/bin/env python3
-"""Times finetalc on rolls of up to 65,536 bytes that this script makes, and prints a table. A benchmark, no test.
+"""Times finetalc on rolls of up to 65,536 bytes that this script makes, and prints a table. A
+benchmark, no test.
 
     bench/speed.py          the median of 31 runs each, start to end
 """
@@ -21,7 +22,8 @@ def packed(pages):
         index += offset.to_bytes(4, "big") + len(page).to_bytes(4, "big") + bytes([form, 0, 0, 0])
         offset += len(page)
     total = offset.to_bytes(4, "big")
-    return b"".join(page for _, page in pages) + index + total + len(pages).to_bytes(4, "big") + total + b"ROLL"
+    trailer = total + len(pages).to_bytes(4, "big") + total + b"ROLL"
+    return b"".join(page for _, page in pages) + index + trailer
 
 
 def main():

@@ -1,4 +1,5 @@
-/* From one form of text into another, from standard input to standard output: transcribe SOURCE TARGET, each a number from 1 to 7. */
+/* From one form of text into another, from standard input to standard output: transcribe SOURCE
+ * TARGET, each a number from 1 to 7. */
 #include "finetalc.h"
 
 #include <inttypes.h>
@@ -45,7 +46,8 @@ int main(int count, char **words)
         bool done;
 
         do { /* the output may be too small for the whole sector: then the rest is offered again */
-            done = finetalc_offer(&transcript, sector + taken, length - taken, output, sizeof output, &answer);
+            done = finetalc_offer(&transcript, sector + taken, length - taken,
+                                  output, sizeof output, &answer);
             fwrite(output, 1, answer.written, stdout);
             taken += answer.taken;
         } while (!done && answer.number == 8);
@@ -59,6 +61,7 @@ int main(int count, char **words)
         return EXIT_FAILURE;
     }
     finetalc_status(&transcript, &progress, &answer);
-    fprintf(stderr, "%" PRIu64 " bytes, %" PRIu64 " characters\n", progress.taken, progress.characters);
+    fprintf(stderr, "%" PRIu64 " bytes, %" PRIu64 " characters\n",
+            progress.taken, progress.characters);
     return EXIT_SUCCESS;
 }

@@ -1,5 +1,6 @@
 #!/usr/bin/env python3
-"""From one form of text into another, from standard input to standard output: transcribe.py SOURCE TARGET, each a number from 1 to 7.
+"""From one form of text into another, from standard input to standard output: transcribe.py SOURCE
+TARGET, each a number from 1 to 7.
 
 It calls target/lib/libfinetalc.so, which `make example` builds."""
 import ctypes
@@ -7,7 +8,8 @@ import pathlib
 import sys
 from ctypes import byref, c_bool, c_size_t, c_uint8, c_uint32, c_uint64
 
-LIBRARY = ctypes.CDLL(str(pathlib.Path(__file__).resolve().parent.parent / "target/lib/libfinetalc.so"))
+TOP = pathlib.Path(__file__).resolve().parent.parent
+LIBRARY = ctypes.CDLL(str(TOP / "target/lib/libfinetalc.so"))
 FORMS = range(1, 8)
 LONGEST_SECTOR = 4096
 LONGEST_OUTPUT = 65536
@@ -44,12 +46,19 @@ class Progress(ctypes.Structure):
 class Record(ctypes.Structure):
     """struct finetalc_transcript"""
 
-    _fields_ = [("progress", Progress), ("source", c_uint8), ("target", c_uint8), ("held_bytes", c_uint8 * 4)]
+    _fields_ = [
+        ("progress", Progress),
+        ("source", c_uint8),
+        ("target", c_uint8),
+        ("held_bytes", c_uint8 * 4),
+    ]
 
 
-LIBRARY.finetalc_open.argtypes = [c_uint32, c_uint32, ctypes.POINTER(Record), ctypes.POINTER(Answer)]
-LIBRARY.finetalc_offer.argtypes = [ctypes.POINTER(Record), ctypes.c_char_p, c_size_t, ctypes.c_char_p, c_size_t, ctypes.POINTER(Answer)]
-LIBRARY.finetalc_close.argtypes = [ctypes.POINTER(Record), ctypes.POINTER(Answer)]
+RECORD, ANSWER = ctypes.POINTER(Record), ctypes.POINTER(Answer)
+BYTES = [ctypes.c_char_p, c_size_t]
+LIBRARY.finetalc_open.argtypes = [c_uint32, c_uint32, RECORD, ANSWER]
+LIBRARY.finetalc_offer.argtypes = [RECORD, *BYTES, *BYTES, ANSWER]
+LIBRARY.finetalc_close.argtypes = [RECORD, ANSWER]
 for call in (LIBRARY.finetalc_open, LIBRARY.finetalc_offer, LIBRARY.finetalc_close):
     call.restype = c_bool
 
@@ -59,7 +68,8 @@ class Refused(Exception):
 
     def __init__(self, answer):
         place = f" at offset {answer.offset}" if answer.number in (6, 7, 9) else ""
-        super().__init__(f"refused {answer.number}{place}" + (f", cause {answer.cause}" if answer.cause else ""))
+        cause = f", cause {answer.cause}" if answer.cause else ""
+        super().__init__(f"refused {answer.number}{place}{cause}")
         self.answer = answer
 
 
@@ -79,8 +89,12 @@ class Transcript:
             raise Refused(self.answer)
 
     def offer(self, sector):
-        """The text of a sector of up to 4,096 bytes, which always fits into the output, and whether that is all of it: not at a fault."""
-        done = LIBRARY.finetalc_offer(byref(self.record), sector, len(sector), self.output, LONGEST_OUTPUT, byref(self.answer))
+        """The text of a sector of up to 4,096 bytes, which always fits into the output, and whether
+        that is all of it: not at a fault."""
+        record, answer = byref(self.record), byref(self.answer)
+        done = LIBRARY.finetalc_offer(
+            record, sector, len(sector), self.output, LONGEST_OUTPUT, answer
+        )
         written = 0 if self.answer.number == 4 else self.answer.written
         return self.output.raw[:written], done
 

@@ -1,12 +1,15 @@
 /* finetalc: text in ISO/IEC 6937 and its relatives, from one form into another, sector by sector.
  *
- * A transcript is a record of numbers that the caller keeps. The library keeps nothing between calls: a record needs no freeing, and may be
- * copied or stored and gone on with later.
+ * A transcript is a record of numbers that the caller keeps. The library keeps nothing between
+ * calls: a record needs no freeing, and may be copied or stored and gone on with later.
  *
- * Each call returns true where it succeeds. Where it returns false, answer->number says why, and the manual page, finetalc(3), lists the
- * numbers. A record is to be changed by the calls alone. One whose numbers cannot be those of a transcript is refused with 102; any other is
- * taken as its numbers say, so not every change by something else is noticed.
- * All pointers must be to valid memory, and none may be null, even where the length is 0. What one call is given must not overlap. */
+ * Each call returns true where it succeeds. Where it returns false, answer->number says why, and
+ * the manual page, finetalc(3), lists the numbers. A record is to be changed by the calls alone.
+ * One whose numbers cannot be those of a transcript is refused with 102; any other is taken as its
+ * numbers say, so not every change by something else is noticed.
+ *
+ * All pointers must be to valid memory, and none may be null, even where the length is 0. What one
+ * call is given must not overlap. */
 #ifndef FINETALC_H
 #define FINETALC_H
 
@@ -18,7 +21,8 @@
 extern "C" {
 #endif
 
-/* The forms of text. Of the control characters all but UTF-8, which has them all, have tab, line feed, form feed and carriage return. */
+/* The forms of text. Of the control characters all but UTF-8, which has them all, have tab, line
+ * feed, form feed and carriage return. */
 enum {
     FINETALC_ISO6937 = 1,             /* ISO/IEC 6937 in eight bits */
     FINETALC_ISO6937_7BIT = 2,        /* the same in seven bits, by single shifts */
@@ -26,7 +30,8 @@ enum {
     FINETALC_ISO8859_16 = 4,          /* ISO/IEC 8859-16 */
     FINETALC_SAMI = 5,                /* the Sami set, ISO-IR 209 */
     FINETALC_UTF8 = 6,                /* UTF-8 */
-    FINETALC_BASIC = 7                /* of ISO/IEC 6937 only SPACE, A to Z, a to z, 0 to 9 and ' ( ) + , - . / : = ? */
+    /* of ISO/IEC 6937 only SPACE, A to Z, a to z, 0 to 9 and ' ( ) + , - . / : = ? */
+    FINETALC_BASIC = 7
 };
 
 /* How many bytes a sector may have, and an output. */
@@ -39,7 +44,8 @@ struct finetalc_answer {
     size_t written;     /* and how many bytes of the output it wrote */
     uint32_t character; /* 7: the code point that has no coding in the target */
     uint8_t number;     /* 0 after a call that succeeds; also where memory was wanting */
-    uint8_t standing;   /* 4: the number of the fault that stands; then all other values are those of that fault */
+    /* 4: the number of the fault that stands; then all other values are those of that fault */
+    uint8_t standing;
     uint8_t cause;      /* 6: why the bytes are no character, 31 to 37 */
     uint8_t depth;      /* 6: how many layers lie above the one that says so */
 };
@@ -48,8 +54,9 @@ enum { FINETALC_OPEN = 0, FINETALC_FAULTED = 1, FINETALC_CLOSED = 2 };
 
 /* What a transcript has come to since it was started. */
 struct finetalc_progress {
-    struct finetalc_answer fault; /* the fault that stands: its number is 6, 7 or 9; all 0 where none does */
-    uint64_t taken;               /* bytes */
+    /* the fault that stands: its number is 6, 7 or 9; all 0 where none does */
+    struct finetalc_answer fault;
+    uint64_t taken; /* bytes */
     uint64_t characters;
     uint64_t written; /* bytes */
     size_t held;      /* bytes taken that begin a character: up to 3 */
@@ -71,18 +78,20 @@ bool finetalc_open(uint32_t source, uint32_t target, struct finetalc_transcript 
 /* Starts it again, and forgets all before. Refused: 102. */
 bool finetalc_start(struct finetalc_transcript *transcript, struct finetalc_answer *answer);
 
-/* Reads the held bytes and then the sector from the front, and writes each character behind the one before.
- * Refused: 1 to 8, 102, and 0 where memory is wanting (form 7 alone wants some). After 8 the rest of the sector may be offered again, with
- * another output. After 4 nothing was taken or written. What was not written of the output stays as it was. */
-bool finetalc_offer(struct finetalc_transcript *transcript, const uint8_t *sector, size_t sector_length,
-                    uint8_t *output, size_t output_length, struct finetalc_answer *answer);
+/* Reads the held bytes and then the sector from the front, and writes each character behind the
+ * one before. Refused: 1 to 8, 102, and 0 where memory is wanting (form 7 alone wants some). After
+ * 8 the rest of the sector may be offered again, with another output. After 4 nothing was taken or
+ * written. What was not written of the output stays as it was. */
+bool finetalc_offer(struct finetalc_transcript *transcript, const uint8_t *sector,
+                    size_t sector_length, uint8_t *output, size_t output_length,
+                    struct finetalc_answer *answer);
 
-/* Ends it. Refused: 4, 5, 9 where the source ends in bytes that wait for more, 102, and 0 as above. */
+/* Ends it. Refused: 4, 5, 102, 9 where the source ends in bytes that wait for more, 0 as above. */
 bool finetalc_close(struct finetalc_transcript *transcript, struct finetalc_answer *answer);
 
 /* Tells what it has come to, which also stands in transcript->progress. Refused: 102. */
-bool finetalc_status(const struct finetalc_transcript *transcript, struct finetalc_progress *progress,
-                     struct finetalc_answer *answer);
+bool finetalc_status(const struct finetalc_transcript *transcript,
+                     struct finetalc_progress *progress, struct finetalc_answer *answer);
 
 #ifdef __cplusplus
 }

@@ -4,6 +4,7 @@
     tools/planted.py make NAME..   writes target/planted/NAME.txt: for each function some wrong edits of its body
     tools/planted.py run [NAME..]  tries each edit of a crate's lists (of every crate that has one, if no name is given) on a copy of
                                    the repository: tools/planted/NAME.txt, written by hand, and target/planted/NAME.txt, if it was made
+    tools/planted.py bare [NAME..] lists the functions with a contract that no edit of tools/planted/NAME.txt changes
 
 An edit is a block of lines: `plant:` with a name and the function, `file:`, and then
 pairs of `old:` and `new:`, one line each, where the old text stands in the file exactly once. An edit ends as refused (a fact no longer
@@ -23,7 +24,7 @@ LISTS = TOP / "tools/planted"
 MADE = TOP / "target/planted"
 EACH = 5
 CODE = r"^\s*(//|#\[|use |pub use |mod |pub mod |ghost |ensures|requires|\}|\{|else \{?$)"
-HEAD = re.compile(r"^(\s*)(?:pub(?:\(crate\))? )?(?:const )?fn (\w+)")
+HEAD = re.compile(r"^(\s*)(?:pub(?:\(crate\))? )?(?:const )?(?:extern \S+ )?fn (\w+)")
 
 
 def functions(lines):
@@ -38,10 +39,10 @@ def functions(lines):
             continue
         indent, name = head.groups()
         body = at
-        while not (lines[body] == indent + "{" or lines[body].endswith(" {") or lines[body].rstrip().endswith(";")):
+        while not (lines[body] == indent + "{" or lines[body].endswith((" {", ";", "{}"))):
             body += 1
         end = body
-        if not lines[body].rstrip().endswith(";"):
+        if not lines[body].endswith((";", "{}")):
             while lines[end] != indent + "}":
                 end += 1
             if not tests:
@@ -144,6 +145,30 @@ def listed(name):
         yield lines[0][7:], "\n".join(line for line in lines[1:] if not line.startswith("known: ")), block
 
 
+def has_contract(lines, head):
+    """Whether a function has a clause of its own, or stands in an impl with ghost members."""
+    if any(re.search(r"\bensures\b", lines[at]) for at in head):
+        return True
+    if not lines[head.start].startswith(" "):
+        return False
+    above = next(at for at in range(head.start, -1, -1) if lines[at].startswith(("impl", "pub trait", "trait")))
+    return any(re.match(r"\s+ghost \w+ = ", line) for line in lines[above : head.start])
+
+
+def bare(name):
+    """The functions with a contract, and a body, that no edit written by hand changes."""
+    source = TOP / "crates" / name
+    one = LISTS / f"{name}.txt"
+    edited = re.findall(r"^file: (.*)\nold: (.*)$", one.read_text(), re.M) if one.exists() else []
+    for file in sorted((source / "src").rglob("*.rt")):
+        lines = file.read_text().split("\n")
+        olds = [old.strip() for path, old in edited if source / path == file]
+        for function, head, body in functions(lines):
+            whole = "\n".join(lines[head.start : body.stop])
+            if has_contract(lines, head) and not any(old in whole for old in olds):
+                yield f"{name}/{file.relative_to(source)}:{head.start + 1}: {function}"
+
+
 def tried(top, name, plants):
     """What comes of each edit, in a copy of the repository: refused, bad or survivor, with the first error."""
     folder = top / "crates" / name / "must-fail"
@@ -213,6 +238,8 @@ if __name__ == "__main__":
     if command == "make" and given:
         for each in given:
             make(each)
+    elif command == "bare":
+        print("\n".join(line for each in given or sorted(it.name for it in (TOP / "crates").iterdir()) for line in bare(each)))
     elif command == "run":
         sys.exit(1 if run(given or sorted({it.stem for folder in (LISTS, MADE) for it in folder.glob("*.txt")})) else 0)
     else:

@@ -10,4 +10,6 @@ def keep(path, lines, origin):
     if not sys.argv[1:]:
         path.write_text(text)
     elif path.read_text() != text:
-        sys.exit("%s: %s is not what %s; run it without --check to write it anew" % (sys.argv[0], path, origin))
+        sys.exit(
+            f"{sys.argv[0]}: {path} is not what {origin}; run it without --check to write it anew"
+        )

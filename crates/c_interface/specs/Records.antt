@@ -116,8 +116,8 @@ NoTranscript r = (f g : Form) (s : Snapshot) → Keeps r f g s → ⊥
 -- no record keeps two transcripts
 abbrev pub OneTranscript : Type 0
 OneTranscript =
-    (r : TranscriptRecord) (f g f' g' : Form) (s s' : Snapshot) → Keeps r f g s → Keeps r f' g' s'
-    → (f ≡ f') × (g ≡ g') × (s ≡ s')
+    (r : TranscriptRecord) (f g f' g' : Form) (s s' : Snapshot) → Keeps r f g s
+    → Keeps r f' g' s' → (f ≡ f') × (g ≡ g') × (s ≡ s')
 
 -- the set of one of the two forms has a list, which wants memory
 abbrev pub WantsMemory : (source target : Form) → Type 0

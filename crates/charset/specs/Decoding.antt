@@ -6,7 +6,8 @@ use Rattle.charset.specs.Answers.{ReadAnswer, Reads, OnlyAnswer, FourBytesDecide
 -- s is the characters in the codings of m, one behind the other
 abbrev pub Spells : Meaning → List ℕ → List ℕ → Type 0
 Spells m [] s = s ≡ []
-Spells m (c ∷ cs) s = (a b : List ℕ) × (m.codings.string c ≡ Some a) × (s ≡ a ++ b) × Spells m cs b
+Spells m (c ∷ cs) s =
+    (a b : List ℕ) × (m.codings.string c ≡ Some a) × (s ≡ a ++ b) × Spells m cs b
 
 -- s is the characters in codings, then an opening
 pub record Decodes (m : Meaning) (s chars opening : List ℕ) : Type 0 where
@@ -17,7 +18,8 @@ pub record Decodes (m : Meaning) (s chars opening : List ℕ) : Type 0 where
 
 -- no string is characters in codings and then an opening in two ways
 abbrev pub DecodesOnce : Meaning → Type 0
-DecodesOnce m = (s cs ds h k : List ℕ) → Decodes m s cs h → Decodes m s ds k → (cs ≡ ds) × (h ≡ k)
+DecodesOnce m =
+    (s cs ds h k : List ℕ) → Decodes m s cs h → Decodes m s ds k → (cs ≡ ds) × (h ≡ k)
 
 -- what the laws say of r, the answer to reading s
 pub record ReadByLaws (m : Meaning) (s : List ℕ) (r : ReadAnswer) : Type 0 where

@@ -1,5 +1,6 @@
 -- A byte string in four places, with 0 behind it.
-use Rattle.std.specs.Prelude.{◌≡◌, ℕ, ◌-◌, ◌≤◌, List, ◌++◌, length, drop, replicate}
+use Rattle.std.specs.Prelude.{◌≡◌, ℕ, ◌-◌, ◌≤◌, List, ◌++◌, length, drop}
+use Rattle.std.specs.Prelude.{replicate}
 
 -- the first n places are the string, and the others hold 0
 pub record Padded (places : List ℕ) (n : ℕ) : Type 0 where

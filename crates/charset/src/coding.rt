@@ -1,11 +1,11 @@
-// A coding is a byte string of one to four bytes.
-ghost use Rattle.std.specs.Prelude.{◌≡◌, ◌<◌, ◌≤◌, [], ◌∷◌, length};
-ghost use Rattle.charset.specs.Strings.{with_byte, unless_empty};
+//! A coding is a byte string of one to four bytes.
+ghost use Rattle.std.specs.Prelude.{◌≡◌, [], ◌∷◌};
+ghost use Rattle.charset.specs.Strings.{OneToFour, with_byte, unless_empty};
 
 use crate::front::Front;
 use std::marker::Model;
 
-// In contracts a coding is its list of bytes.
+/// The coding of a character, one to four bytes. In contracts it is its list of bytes.
 #[derive(Clone, Copy)]
 pub struct Coding {
     front: Front,
@@ -24,7 +24,7 @@ impl Model for Coding {
 }
 
 impl Coding {
-    // The coding of one byte.
+    /// The coding of one byte.
     pub fn new(first: u8) -> Coding
         ensures { result ≡ first ∷ [] }
     {
@@ -33,7 +33,7 @@ impl Coding {
         }
     }
 
-    // The coding of these bytes; none if there are none.
+    /// The coding of these bytes; `None` if there are none.
     pub fn of(front: Front) -> Option<Coding>
         ensures { result ≡ unless_empty front }
     {
@@ -44,7 +44,7 @@ impl Coding {
         }
     }
 
-    // The coding with one more byte behind; none if it has four already.
+    /// The coding with one more byte behind; `None` if it has four already.
     pub fn then(self, byte: u8) -> Option<Coding>
         ensures { result ≡ with_byte self byte }
     {
@@ -52,9 +52,10 @@ impl Coding {
         Some(Coding { front })
     }
 
+    /// Its bytes, from the first.
     pub fn as_bytes(&self) -> &[u8]
         ensures bytes { result.now ≡ self.now }
-        ensures sized { (0 < length result.now) × (length result.now ≤ 4) }
+        ensures sized { OneToFour result.now }
     {
         self.front.as_bytes()
     }

@@ -1,18 +1,18 @@
-// The first bytes of a string, up to four: as many as decide what stands in front of it.
-ghost use Rattle.std.specs.Prelude.{◌≡◌, ◌≤◌, [], ◌∷◌, ◌++◌, length, take, drop};
+//! The first bytes of a string, up to four: as many as decide what stands in front of it.
+ghost use Rattle.std.specs.Prelude.{◌≡◌, ◌≤◌, [], ◌∷◌, ◌++◌};
+ghost use Rattle.std.specs.Prelude.{length, take, drop};
 ghost use Rattle.charset.specs.Strings.{with_byte};
 
 use std::marker::Model;
 
-// In contracts a front is its list of bytes. Four places and a length: a front is copied and needs
-// no memory, as a `Vec` would.
+/// A string of at most four bytes. In contracts it is its list of bytes.
 #[derive(Clone, Copy)]
 pub struct Front {
     bytes: [u8; 4],
     len: u8,
 }
 
-// The places behind the bytes hold 0, so that the list tells all of a front.
+// The places behind the bytes hold 0.
 impl Model for Front {
     ghost use Rattle.std.specs.Prelude.{ℕ, List, take, length};
     ghost use Rattle.std.proofs.Common.{ap₂};
@@ -32,6 +32,7 @@ impl Model for Front {
 }
 
 impl Front {
+    /// The empty string.
     pub fn empty() -> Front
         ensures { result ≡ [] }
     {
@@ -41,6 +42,7 @@ impl Front {
         }
     }
 
+    // The string of one byte.
     pub(crate) fn of_one(first: u8) -> Front
         ensures { result ≡ first ∷ [] }
     {
@@ -50,7 +52,7 @@ impl Front {
         }
     }
 
-    // How many bytes there are.
+    /// How many bytes there are.
     pub fn len(&self) -> usize
         ensures value { result ≡ length self.now }
         ensures few { result ≤ 4 }
@@ -58,7 +60,7 @@ impl Front {
         self.as_bytes().len()
     }
 
-    // With one more byte behind; none if it has four already.
+    /// The string with one more byte behind; `None` if it has four already.
     pub fn then(self, byte: u8) -> Option<Front>
         ensures { result ≡ with_byte self byte }
     {
@@ -73,7 +75,7 @@ impl Front {
         })
     }
 
-    // With more bytes behind, as far as four go.
+    /// The first four bytes of these and then `more`, or all where there are fewer.
     pub fn followed_by(self, more: &[u8]) -> Front
         ensures { result ≡ take 4 (self ++ more.now) }
     {
@@ -87,7 +89,7 @@ impl Front {
         }
     }
 
-    // The bytes from a place on in these and then more, as far as four go.
+    /// The first four bytes from the place `at` on, counted from 0, in these and then `more`.
     pub fn window(self, more: &[u8], at: usize) -> Front
         ensures { result ≡ take 4 (drop at (self ++ more.now)) }
     {
@@ -99,6 +101,7 @@ impl Front {
             .followed_by(&more[behind..])
     }
 
+    /// Its bytes, from the first.
     pub fn as_bytes(&self) -> &[u8]
         ensures bytes { result.now ≡ self.now }
         ensures few { length result.now ≤ 4 }

@@ -1,5 +1,5 @@
-// What a character set is: its codings, openings and causes, the laws that every set keeps, and
-// what reading and writing answer.
+//! What a character set is: its codings, openings and causes, the laws that every set keeps, and
+//! what reading and writing answer.
 #![tactic(auto)]
 
 ghost use Rattle.std.specs.Prelude.{ℕ, Bool, List};
@@ -15,23 +15,27 @@ pub use by_laws::read_front;
 pub use coding::Coding;
 pub use front::Front;
 
-// Why a string cannot be read: the number of the cause, and how many layers lie above the one that
-// refused. A number and no enum, since any set may have causes of its own.
+/// Why a string cannot be read.
 #[derive(Clone, Copy, PartialEq, Eq, Debug)]
 pub struct SetRefusal {
+    /// The number of the cause. Any set may have causes of its own; those of the sets and layers
+    /// here are 31 to 37.
     pub cause: u8,
+    /// How many layers lie above the one that refused; 255 where there are more.
     pub depth: u8,
 }
 
-// What stands in front of a string: a character's coding of that length, or nothing yet, where the
-// whole string is an opening. No `Option`: that more bytes may complete a coding is said by `Open`,
-// and would not be by `None`.
+/// What stands in front of a string that can be read.
 #[derive(Clone, Copy, PartialEq, Eq, Debug)]
 pub enum Reading {
+    /// The coding of a character: its code point, and how many bytes the coding has.
     Found { character: u32, length: usize },
+    /// No coding yet: the whole string is an opening, which more bytes may complete.
     Open,
 }
 
+/// A character set: byte strings of one to four bytes, each of which codes a character. Its ghost
+/// members say which; reading and writing answer by them, and they keep the laws of every set.
 pub trait CharacterSet {
     // The character that a whole string codes, and the string that codes a character.
     ghost codings: { Self → Codings };
@@ -42,13 +46,16 @@ pub trait CharacterSet {
     // The cause of a string that is no opening and has no coding in front.
     ghost causes: { Self → List ℕ → SetRefusal };
 
-    // What stands in front of the bytes: a character's coding, or an opening alone; else the cause.
+    /// What stands in front of the bytes: the coding of a character, or an opening alone; else the
+    /// cause of the shortest beginning that has one. No more than four bytes decide it.
     fn read(&self, bytes: &[u8]) -> Result<Reading, SetRefusal>
         ensures { Reads (meaning_of codings openings causes self.now) bytes.now result };
 
-    // The coding of the character of that number, if it has one.
+    /// The coding of the character with that code point; `None` if it has none, as no number above
+    /// U+10FFFF has.
     fn write(&self, number: u32) -> Option<Coding>
         ensures { Writes (meaning_of codings openings causes self.now) number result };
 
+    // That the three keep the laws.
     ghost lawful: { (s : Self) → Laws (meaning_of codings openings causes s) };
 }

@@ -1,6 +1,7 @@
 // What a set answers to a question, and whether two answers agree.
-ghost use Rattle.std.specs.Prelude.{◌≡◌, true, ◌⊎◌};
-ghost use Rattle.conformance.specs.Agreement.{told_reading, told_coding, is_refusal};
+ghost use Rattle.std.specs.Prelude.{◌≡◌, true};
+ghost use Rattle.conformance.specs.Agreement.{told_reading, told_coding};
+ghost use Rattle.conformance.specs.Held.{Agree};
 ghost use Rattle.conformance.specs.Numbers.{number_of};
 
 use charset::{Coding, Reading, SetRefusal};
@@ -58,10 +59,8 @@ fn number_of(bytes: &[u8]) -> u32
 impl Reply {
     // Two answers agree if they are the same, or both refusals: the other converter gives no cause.
     pub fn agrees(self, other: Reply) -> bool
-        ensures same { self ≡ other → result ≡ true }
-        ensures refusals { is_refusal self ≡ true → is_refusal other ≡ true → result ≡ true }
-        ensures only { result ≡ true → (self ≡ other)
-            ⊎ ((is_refusal self ≡ true) × (is_refusal other ≡ true)) }
+        ensures only_if_they_agree { result ≡ true → Agree self other }
+        ensures whenever_they_agree { Agree self other → result ≡ true }
     {
         match (self, other) {
             (Reply::Refused(_), Reply::Refused(_)) => true,

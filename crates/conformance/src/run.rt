@@ -38,8 +38,12 @@ impl<'a> Stretch<'a> {
         Ok(run)
     }
 
+    // Whether our answer, which is the same to all numbers of the run, agrees with theirs.
     pub(crate) fn agrees(&self) -> bool
-        ensures { result ≡ true → Agree self.now.ours self.now.vector.now.answer }
+        ensures only_if_they_agree { result ≡ true →
+            Agree self.now.ours self.now.vector.now.answer }
+        ensures whenever_they_agree { Agree self.now.ours self.now.vector.now.answer →
+            result ≡ true }
     {
         self.ours.agrees(self.vector.answer)
     }

@@ -1,6 +1,6 @@
 -- Codings that were met, kept with the coding that each becomes.
-use Rattle.std.specs.Prelude.{◌≡◌, ℕ, ◌⊎◌, cond, List, Some, None, Ok, Option, bytes_eq}
-use Rattle.std.specs.Prelude.{slice_index_or, slice_set}
+use Rattle.std.specs.Prelude.{◌≡◌, ℕ, ◌⊎◌, cond, List, Some, None, Ok, Option}
+use Rattle.std.specs.Prelude.{bytes_eq, slice_index_or, slice_set}
 use Rattle.charset.specs.Meaning.{Meaning}
 use Rattle.conversion.specs.Becomes.{becomes}
 use Rattle.conversion.specs.Next.{ComesNext}
@@ -16,12 +16,14 @@ abbrev pub found_in : {N : ℕ} → List (Option (Met N)) → ℕ → List ℕ �
 found_in kept place s = if_this s (slice_index_or kept place None)
 
 -- with a coding kept at a place, in place of what was kept there
-abbrev pub kept_with : {N : ℕ} → List (Option (Met N)) → ℕ → (s v : List ℕ) → List (Option (Met N))
+abbrev pub kept_with : {N : ℕ} → List (Option (Met N)) → ℕ → (s v : List ℕ)
+    → List (Option (Met N))
 kept_with kept place s v = slice_set kept place (Some (record { bytes = s; coding = v }))
 
 -- that the coding s becomes v is kept somewhere
 abbrev pub KeptIn : {N : ℕ} → List (Option (Met N)) → (s v : List ℕ) → Type 0
-KeptIn kept s v = (i : ℕ) × (slice_index_or kept i None ≡ Some (record { bytes = s; coding = v }))
+KeptIn kept s v =
+    (i : ℕ) × (slice_index_or kept i None ≡ Some (record { bytes = s; coding = v }))
 
 abbrev pub Kept : MetCodings → (s v : List ℕ) → Type 0
 Kept m s v = KeptIn m.pairs.kept s v ⊎ KeptIn m.triples.kept s v

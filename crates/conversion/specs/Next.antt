@@ -7,7 +7,8 @@ use Rattle.conversion.specs.declared.Fault.{Fault}
 use Rattle.conversion.specs.Stops.{Stops}
 
 -- a character in front and its target coding, or an opening alone, or the fault that stands there
-abbrev pub ComesNext : Meaning → Meaning → List ℕ → Result (Option (List ℕ × ℕ)) Fault → Type 0
+abbrev pub ComesNext : Meaning → Meaning → List ℕ → Result (Option (List ℕ × ℕ)) Fault
+    → Type 0
 ComesNext S T input (Ok (Some p)) =
     (c : ℕ) × Reads S input (Ok (Found c p.1)) × (T.codings.string c ≡ Some p.0)
 ComesNext S T input (Ok None) = Reads S input (Ok Open)

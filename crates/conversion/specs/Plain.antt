@@ -1,6 +1,6 @@
 -- Bytes that stand alone in two sets.
-use Rattle.std.specs.Prelude.{◌≡◌, ℕ, ◌<◌, List, [], ◌∷◌, length, Some, None, Option}
-use Rattle.std.specs.Prelude.{slice_index_or}
+use Rattle.std.specs.Prelude.{◌≡◌, ℕ, ◌<◌, List, [], ◌∷◌, length, Some, None}
+use Rattle.std.specs.Prelude.{Option, slice_index_or}
 use Rattle.charset.specs.Meaning.{Meaning}
 use Rattle.conversion.specs.Becomes.{becomes}
 
@@ -18,7 +18,8 @@ plain_byte S T b = only_byte (becomes S T (b ∷ []))
 -- what each byte below n becomes is known
 abbrev pub AllKnown : Meaning → Meaning → ℕ → List (Option ℕ) → Type 0
 AllKnown S T n known =
-    (length known ≡ 256) × ((b : ℕ) → b < n → slice_index_or known b None ≡ plain_byte S T b)
+    (length known ≡ 256)
+    × ((b : ℕ) → b < n → slice_index_or known b None ≡ plain_byte S T b)
 
 -- what is known of each byte is right
 abbrev pub Known : Meaning → Meaning → List (Option ℕ) → Type 0

@@ -29,5 +29,6 @@ pub record Far (S T : Meaning) (input out out' : List ℕ) (count at put : ℕ) 
   pub size : length out' ≡ length out
 
 -- so many characters that fit were read from one byte each, and written as one byte each
-abbrev pub ByteForByte : Meaning → Meaning → List ℕ → (out out' : List ℕ) → ℕ → Type 0
+abbrev pub ByteForByte : Meaning → Meaning → List ℕ → (out out' : List ℕ) → ℕ
+    → Type 0
 ByteForByte S T input out out' n = Far S T input out out' n n n

@@ -1,6 +1,6 @@
 -- Characters that lead from one set into another, and what ends them.
-use Rattle.std.specs.Prelude.{◌≡◌, ℕ, ◌+◌, ◌<◌, ◌≤◌, List, ◌++◌, length, Some, None, Ok, Err}
-use Rattle.std.specs.Prelude.{Result}
+use Rattle.std.specs.Prelude.{◌≡◌, ℕ, ◌+◌, ◌<◌, ◌≤◌, List, ◌++◌, length}
+use Rattle.std.specs.Prelude.{Some, None, Ok, Err, Result}
 use Rattle.charset.specs.declared.Reading.TheVariants.{Found, Open}
 use Rattle.charset.specs.Meaning.{Meaning}
 use Rattle.charset.specs.Answers.{Reads}
@@ -10,6 +10,7 @@ use Rattle.conversion.specs.declared.Fault.TheVariants.{Unread, Unwritten, Unfin
 use Rattle.conversion.specs.declared.Pause.{Pause}
 use Rattle.conversion.specs.declared.Pause.TheVariants as pause
 
+-- why a conversion ends
 abbrev pub End : Type 0
 End = Result Pause Fault
 
@@ -22,16 +23,20 @@ pub record Leads (S T : Meaning) (input : List ℕ) (room : ℕ)
   pub begins : input ≡ source ++ rest
   pub fits : length target ≤ room
 
+-- the character c stands in front, and has no coding in the target set
+abbrev pub IsUnwritable : Meaning → Meaning → List ℕ → ℕ → Type 0
+IsUnwritable S T rest c = (n : ℕ) × Reads S rest (Ok (Found c n)) × (T.codings.string c ≡ None)
+
 -- what comes next is an end: with used bytes of the output written,
 -- the rest is an opening; or the target coding of its first character does not fit; or that
 -- character has none; or nothing can be read
 abbrev pub Stops : Meaning → Meaning → List ℕ → ℕ → ℕ → End → Type 0
 Stops S T rest used room (Ok pause.Open) = Reads S rest (Ok Open)
 Stops S T rest used room (Ok pause.Full) =
-    (c n : ℕ) × (v : List ℕ) × Reads S rest (Ok (Found c n)) × (T.codings.string c ≡ Some v)
+    (c n : ℕ) × (v : List ℕ) × Reads S rest (Ok (Found c n))
+    × (T.codings.string c ≡ Some v)
     × (room < used + length v)
-Stops S T rest used room (Err (Unwritten c)) =
-    (n : ℕ) × Reads S rest (Ok (Found c n)) × (T.codings.string c ≡ None)
+Stops S T rest used room (Err (Unwritten c)) = IsUnwritable S T rest c
 Stops S T rest used room (Err (Unread q)) = Reads S rest (Err q)
 Stops S T rest used room (Err Unfinished) = ⊥
 

@@ -1,19 +1,19 @@
 -- What the transcription of a text is.
-use Rattle.std.specs.Prelude.{◌≡◌, ℕ, ◌<◌, ◌≤◌, List, [], length, take, drop, Some, None, Ok, Err}
-use Rattle.std.specs.Prelude.{Option}
-use Rattle.charset.specs.declared.Reading.TheVariants.{Found, Open}
+use Rattle.std.specs.Prelude.{◌≡◌, ℕ, ◌<◌, ◌≤◌, List, [], length, take, drop}
+use Rattle.std.specs.Prelude.{Some, None, Ok, Err, Option}
+use Rattle.charset.specs.declared.Reading.TheVariants.{Open}
 use Rattle.charset.specs.Meaning.{Meaning}
 use Rattle.charset.specs.Answers.{Reads}
 use Rattle.charset.specs.Decoding.{Spells}
 use Rattle.conversion.specs.declared.Fault.{Fault}
 use Rattle.conversion.specs.declared.Fault.TheVariants.{Unread, Unwritten, Unfinished}
+use Rattle.conversion.specs.Stops.{IsUnwritable}
 
 -- what stands behind the characters that were written: nothing, or what the fault says
 abbrev pub Ends : Meaning → Meaning → List ℕ → Option Fault → Type 0
 Ends S T rest None = rest ≡ []
 Ends S T rest (Some (Unread q)) = Reads S rest (Err q)
-Ends S T rest (Some (Unwritten c)) =
-    (n : ℕ) × Reads S rest (Ok (Found c n)) × (T.codings.string c ≡ None)
+Ends S T rest (Some (Unwritten c)) = IsUnwritable S T rest c
 Ends S T rest (Some Unfinished) = Reads S rest (Ok Open) × (0 < length rest)
 
 -- the bytes up to the offset are characters in source codings, and the text is the same characters

@@ -1,4 +1,4 @@
-// From one character set into another.
+//! From one character set into another.
 ghost use Rattle.std.specs.Prelude.{◌≡◌, ◌++◌};
 ghost use Rattle.conversion.specs.Pairs.{IsRightFor};
 ghost use Rattle.conversion.specs.Runs.{Runs};
@@ -8,7 +8,8 @@ use crate::two_sets::TwoSets;
 use crate::{Fault, Pause, Run};
 use charset::{CharacterSet, Front};
 
-// The two sets, and the codings that were met.
+/// Converts characters from one set into another. It keeps which bytes and codings it met, and what
+/// they become, so that they are not looked up again.
 #[derive(Drop)]
 pub struct Converter<S: CharacterSet, T: CharacterSet> {
     sets: TwoSets<S, T>,
@@ -19,6 +20,7 @@ pub struct Converter<S: CharacterSet, T: CharacterSet> {
 impl<S: CharacterSet, T: CharacterSet> Converter<S, T> {
     ghost use Rattle.conversion.specs.Converters.{source, target, SameSets};
 
+    /// A converter from `source` into `target`, which has met nothing.
     pub fn new(source: S, target: T) -> Converter<S, T>
         ensures same_sets { (result.sets.source ≡ source) × (result.sets.target ≡ target) }
     {
@@ -28,8 +30,10 @@ impl<S: CharacterSet, T: CharacterSet> Converter<S, T> {
         }
     }
 
-    // The held bytes and then the sector, character after character, into the output, until
-    // something ends it. How far it came stands in `run`, whatever ends it.
+    /// Converts the held bytes and then the sector, character after character, into the front of
+    /// the output, until an end comes: an opening or nothing is left, the next coding does not fit,
+    /// or a fault stands there. The rest of the output stays as it was. How far it came stands in
+    /// `run`, whatever ends it.
     pub fn convert(
         &mut self,
         held: Front,

@@ -1,4 +1,4 @@
-// Characters from one set into another.
+//! Characters from one set into another.
 #![tactic(auto)]
 
 ghost use Rattle.std.specs.Prelude.{◌≡◌};
@@ -13,14 +13,14 @@ mod two_sets;
 use charset::{CharacterSet, Coding, Reading, SetRefusal};
 pub use converter::Converter;
 
-// Why a conversion cannot go on.
+/// Why a conversion cannot go on.
 #[derive(Clone, Copy, PartialEq, Eq, Debug)]
 pub enum Fault {
-    // No coding stands in front, and what is left is no opening.
+    /// No coding stands in front, and what is left is no opening.
     Unread(SetRefusal),
-    // The character in front has no coding in the target set.
+    /// The character in front, by its code point, has no coding in the target set.
     Unwritten(u32),
-    // The input is closed while bytes wait for more.
+    /// The input is closed while bytes wait for more.
     Unfinished,
 }
 
@@ -32,34 +32,37 @@ impl From<SetRefusal> for Fault {
     }
 }
 
-// Why a conversion ends where there is no fault.
+/// Why a conversion ends where there is no fault.
 #[derive(Clone, Copy, PartialEq, Eq, Debug)]
 pub enum Pause {
-    // What is left of the input is an opening, or nothing.
+    /// What is left of the input is an opening, or nothing.
     Open,
-    // The next coding is longer than what is left of the output.
+    /// The next coding is longer than what is left of the output.
     Full,
 }
 
-// What comes of one character, where there is no fault. A pause is no error, since the conversion
-// goes on with the next bytes or the next output, and so it stands beside what is written.
+/// What comes of one character, where there is no fault.
 #[derive(Clone, Copy)]
 pub enum Advance {
-    // It was read from so many bytes, and written as so many.
+    /// It was read from so many bytes, and written as so many.
     Written { read: usize, written: usize },
+    /// Nothing was read or written.
     Paused(Pause),
 }
 
-// How far a conversion came.
+/// How far a conversion came.
 #[derive(Clone, Copy, Default)]
 pub struct Run {
+    /// How many characters were converted.
     pub characters: usize,
+    /// How many bytes of the input they were read from.
     pub read: usize,
+    /// How many bytes of the output they were written as.
     pub written: usize,
 }
 
 // The target coding of the character in front of the input, and how many bytes the character is
-// read from; none where the input is open.
+// read from; `None` where the input is open.
 fn next_coding<S: CharacterSet, T: CharacterSet>(
     source: &S,
     target: &T,

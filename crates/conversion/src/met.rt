@@ -1,12 +1,13 @@
-// Codings of two and of three bytes, with the coding that each becomes, kept as they are met.
-ghost use Rattle.std.specs.Prelude.{◌≡◌, ℕ, ◌≤◌, ◌+◌, ◌*◌, ◌%◌, List, length, take, Some, None};
-ghost use Rattle.std.specs.Prelude.{replicate};
+//! Codings of two and of three bytes, with the coding that each becomes, kept as they are met.
+ghost use Rattle.std.specs.Prelude.{◌≡◌, ℕ, ◌≤◌, ◌+◌, ◌*◌, ◌%◌, List};
+ghost use Rattle.std.specs.Prelude.{length, take, Some, None, replicate};
 ghost use Rattle.charset.specs.Meaning.{Meaning};
 ghost use Rattle.conversion.specs.Becomes.{becomes};
 ghost use Rattle.conversion.specs.Met.{found_in, kept_with, Right, FoundNext};
 
 use charset::Coding;
 
+// A coding of the source set, and the coding that it becomes.
 #[derive(Clone, Copy)]
 struct Met<const N: usize> {
     bytes: [u8; N],
@@ -20,6 +21,7 @@ struct Places<const N: usize> {
 }
 
 impl<const N: usize> Places<N> {
+    // Nothing is kept.
     fn empty() -> Places<N>
         ensures { result.kept ≡ replicate 256 None }
     {
@@ -34,6 +36,7 @@ impl<const N: usize> Places<N> {
         (met.bytes == bytes).then_some(met.coding)
     }
 
+    // Keeps what a coding becomes at that place, instead of what is kept there.
     fn keep(&mut self, place: u8, bytes: [u8; N], coding: Coding)
         ensures { self.new.kept ≡ kept_with self.old.kept place bytes.entry coding }
     {
@@ -48,6 +51,7 @@ fn place(first: u8, second: u8) -> u8
     first % 8 * 32 + second % 32
 }
 
+// The codings of two bytes that were met, and those of three.
 #[derive(Clone, Copy)]
 pub(crate) struct MetCodings {
     pairs: Places<2>,
@@ -55,6 +59,7 @@ pub(crate) struct MetCodings {
 }
 
 impl MetCodings {
+    // No coding was met.
     pub(crate) fn empty() -> MetCodings
         ensures { (S T : Meaning) → Right S T result }
     {

@@ -1,4 +1,4 @@
-// Two character sets, and what is known of the bytes that stand alone in both.
+//! Two character sets, and what is known of the bytes that stand alone in both.
 ghost use Rattle.std.specs.Prelude.{◌≡◌, ◌≤◌, ◌++◌, length, drop, Some};
 ghost use Rattle.charset.specs.Sets.{set_of};
 ghost use Rattle.conversion.specs.Next.{ComesNext};
@@ -34,7 +34,7 @@ fn plain_byte<S: CharacterSet, T: CharacterSet>(source: &S, target: &T, byte: u8
     }
 }
 
-// What every byte becomes. A loop, since a table is filled in place by number.
+// What every byte becomes.
 fn plain_bytes<S: CharacterSet, T: CharacterSet>(source: &S, target: &T) -> [Option<u8>; 256]
     ensures { AllKnown (set_of S.CharacterSet source.now)
         (set_of T.CharacterSet target.now) 256 result }
@@ -49,6 +49,7 @@ fn plain_bytes<S: CharacterSet, T: CharacterSet>(source: &S, target: &T) -> [Opt
 // From so many bytes on it is worth looking up what each byte becomes.
 const MANY_BYTES: usize = 256;
 
+/// The two sets of a conversion, and what is known of the bytes that stand alone in both.
 #[derive(Drop)]
 pub struct TwoSets<S: CharacterSet, T: CharacterSet> {
     pub(crate) source: S,
@@ -63,6 +64,7 @@ pub struct TwoSets<S: CharacterSet, T: CharacterSet> {
 impl<S: CharacterSet, T: CharacterSet> TwoSets<S, T> {
     ghost use Rattle.conversion.specs.Pairs.{source, target, IsRightFor, SameSets};
 
+    // The two sets, of which nothing is known yet.
     pub(crate) fn new(source: S, target: T) -> TwoSets<S, T>
         ensures same_sets { (result.source ≡ source) × (result.target ≡ target) }
     {
@@ -186,8 +188,7 @@ impl<S: CharacterSet, T: CharacterSet> TwoSets<S, T> {
     }
 
     // What `convert` does: the bytes that stand alone in both sets at once, the others one at a
-    // time. A loop, since what is read and written decides where the next character is read and
-    // written.
+    // time.
     pub(crate) fn run(
         &self,
         met: &mut MetCodings,

@@ -1,7 +1,7 @@
 -- A set that is lawful and odd: openings that begin no coding, codings with bytes 19 and 80 to 9F,
 -- a surrogate and U+0000 as characters, and causes as deep as can be.
-use Rattle.std.specs.Prelude.{ℕ, Bool, true, false, cond, ◌&&◌, ◌||◌, List, [], ◌∷◌, Some, None}
-use Rattle.std.specs.Prelude.{Option, ◌==◌}
+use Rattle.std.specs.Prelude.{ℕ, Bool, true, false, cond, ◌&&◌, ◌||◌, List, [], ◌∷◌}
+use Rattle.std.specs.Prelude.{Some, None, Option, ◌==◌}
 use Rattle.charset.specs.declared.SetRefusal.{SetRefusal}
 use Rattle.charset.specs.Meaning.{Codings, Meaning, meaning}
 

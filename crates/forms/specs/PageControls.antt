@@ -3,4 +3,5 @@ use Rattle.std.specs.Prelude.{Bool, true, false, List, ◌∷◌, ◌++◌, repl
 
 -- of 00 to 1F just 09, 0A, 0C and 0D
 abbrev pub page_controls : List Bool
-page_controls = replicate 9 false ++ (true ∷ true ∷ false ∷ true ∷ true ∷ replicate 18 false)
+page_controls =
+    replicate 9 false ++ (true ∷ true ∷ false ∷ true ∷ true ∷ replicate 18 false)

@@ -8,7 +8,7 @@ use lib.Seq.{take-append_seam}
 use lib.Count.{ones}
 use Rattle.std.proofs.lemmas.Bool.{cases_lt, both_ways}
 use Rattle.std.proofs.lemmas.Bool.Decides.{nat_tests}
-use Rattle.std.specs.List.{AllByRecursion}
+use Rattle.charset.specs.Strings.{AreBytes}
 use Rattle.charset.specs.declared.Reading.TheVariants.{Open}
 use Rattle.charset.specs.Meaning.{Meaning, Codes, IsOpening, Unreadable, Laws}
 use Rattle.layers.specs.declared.recoding.moves.Move.{Move}
@@ -378,8 +378,7 @@ parity_meaning m l = record {
     never_held : (x : ℕ) → parity_bytes.step false x ≡ Some Hold → ⊥
     never_held x e = grind (arith, nat_tests)
 
-    byte_at : (p rest : List ℕ) (x : ℕ) → AllByRecursion (λ b. b < 0x100) (p ++ x ∷ rest)
-        → x < 0x100
+    byte_at : (p rest : List ℕ) (x : ℕ) → AreBytes (p ++ x ∷ rest) → x < 0x100
     byte_at [] rest x h = h.0
     byte_at (y ∷ p) rest x h = byte_at p rest x h.1
 

@@ -1,5 +1,6 @@
 -- Filling a list: which numbers make one, and on what grounds others are refused.
-use Rattle.std.specs.Prelude.{◌≡◌, ℕ, ◌<◌, ◌≤◌, true, false, ◌⊎◌, List, length, Some, None, ◌≢◌}
+use Rattle.std.specs.Prelude.{◌≡◌, ℕ, ◌<◌, ◌≤◌, true, false, ◌⊎◌, List}
+use Rattle.std.specs.Prelude.{length, Some, None, ◌≢◌}
 use Rattle.charset.specs.Meaning.{Codings}
 use Rattle.layers.specs.declared.list.ListRefusal.{ListRefusal}
 use Rattle.layers.specs.CharacterList.{required, on_list, rises_at, Rising, Sound}
@@ -54,7 +55,12 @@ WithoutCoding k xs t =
 
 -- the ground on which numbers are refused
 abbrev pub Ground : Codings → List ℕ → Told → Type 0
-Ground k xs t = HasTooMany xs t ⊎ (IsNotIncreasing xs t ⊎ (Lacking xs t ⊎ WithoutCoding k xs t))
+Ground k xs t =
+    HasTooMany xs t ⊎ (IsNotIncreasing xs t ⊎ (Lacking xs t ⊎ WithoutCoding k xs t))
+
+-- the refusal has its ground
+abbrev pub HasGround : Codings → List ℕ → ListRefusal → Type 0
+HasGround k xs why = Ground k xs (list_told why)
 
 -- only numbers that fit are refused for want of memory
 abbrev pub WithoutMemory : Codings → List ℕ → Told → Type 0
@@ -62,7 +68,7 @@ WithoutMemory k xs t = (t ≡ record { number = 0; value = None }) × Acceptable
 
 -- the refusal has its ground, or is for want of memory
 abbrev pub RefusedAs : Codings → List ℕ → ListRefusal → Type 0
-RefusedAs k xs why = Ground k xs (list_told why) ⊎ WithoutMemory k xs (list_told why)
+RefusedAs k xs why = HasGround k xs why ⊎ WithoutMemory k xs (list_told why)
 
 -- numbers that fit have no ground, and no numbers have two
 pub record OneAnswer (k : Codings) (xs : List ℕ) : Type 0 where

@@ -1,7 +1,7 @@
 -- The four layers, each a set made from a set.
-use Rattle.std.specs.Prelude.{ℕ, ◌+◌, ◌-◌, ◌%◌, Bool, true, false, cond, ◌&&◌, List, [], ◌∷◌, Some}
-use Rattle.std.specs.Prelude.{None, Option, is_none, is_err, ◌==◌, count_ones, nat_le, nat_lt}
-use Rattle.std.specs.Prelude.{slice_index_or}
+use Rattle.std.specs.Prelude.{ℕ, ◌+◌, ◌-◌, ◌%◌, Bool, true, false, cond, ◌&&◌}
+use Rattle.std.specs.Prelude.{List, [], ◌∷◌, Some, None, Option, is_none, is_err, ◌==◌}
+use Rattle.std.specs.Prelude.{count_ones, nat_le, nat_lt, slice_index_or}
 use Rattle.std.specs.Option.{option_or}
 use Rattle.charset.specs.Meaning.{Meaning}
 use Rattle.charset.specs.Answers.{reading}

@@ -1,6 +1,6 @@
 -- A set under another form of its bytes: each byte below is written as one or two bytes here.
-use Rattle.std.specs.Prelude.{◌≡◌, ℕ, ◌<◌, Bool, true, false, cond, not, ◌&&◌, List, [], ◌∷◌}
-use Rattle.std.specs.Prelude.{length, take, Some, None, Option, ◌≢◌, nat_le}
+use Rattle.std.specs.Prelude.{◌≡◌, ℕ, ◌<◌, Bool, true, false, cond, not, ◌&&◌, List}
+use Rattle.std.specs.Prelude.{[], ◌∷◌, length, take, Some, None, Option, ◌≢◌, nat_le}
 use Rattle.charset.specs.declared.SetRefusal.{SetRefusal}
 use Rattle.charset.specs.Meaning.{Meaning}
 use Rattle.charset.specs.Answers.{reading}

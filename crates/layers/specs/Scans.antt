@@ -1,6 +1,6 @@
 -- What the front of a string stands for below.
-use Rattle.std.specs.Prelude.{◌≡◌, ℕ, false, List, take, Some, None, Option, option_and_then}
-use Rattle.std.specs.Prelude.{sum_by}
+use Rattle.std.specs.Prelude.{◌≡◌, ℕ, false, List, take, Some, None, Option}
+use Rattle.std.specs.Prelude.{option_and_then, sum_by}
 use Rattle.charset.specs.Strings.{with_byte}
 use Rattle.layers.specs.declared.recoding.moves.WrittenByte.{WrittenByte}
 use Rattle.layers.specs.declared.recoding.moves.WrittenByte.TheVariants.{One, Two}

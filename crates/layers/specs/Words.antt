@@ -1,10 +1,11 @@
 -- The layers' codings, openings and causes in plain words.
-use Rattle.std.specs.Prelude.{◌≡◌, ℕ, ◌+◌, ◌-◌, ◌%◌, ◌<◌, ◌≤◌, Bool, true, false, cond, ◌⊎◌, List}
-use Rattle.std.specs.Prelude.{[], ◌∷◌, ◌++◌, map, length, None, Ok, ◌==◌, ◌≢◌, count_ones}
-use Rattle.std.specs.Prelude.{slice_index_or}
+use Rattle.std.specs.Prelude.{◌≡◌, ℕ, ◌+◌, ◌-◌, ◌%◌, ◌<◌, ◌≤◌, Bool}
+use Rattle.std.specs.Prelude.{true, false, cond, ◌⊎◌, List, [], ◌∷◌, ◌++◌, map}
+use Rattle.std.specs.Prelude.{length, None, Ok, ◌==◌, ◌≢◌, count_ones, slice_index_or}
 use Rattle.std.specs.List.{AllByRecursion}
 use Rattle.charset.specs.declared.Reading.TheVariants.{Found}
 use Rattle.charset.specs.Answers.{Reads}
+use Rattle.charset.specs.Strings.{AreBytes}
 use Rattle.charset.specs.Meaning.{Meaning, Codes, IsOpening, Unreadable}
 use Rattle.layers.specs.declared.cause.Cause.TheVariants.{OddParity, NotShifted, TooLong, NotListed}
 use Rattle.layers.specs.Causes.{refusal}
@@ -16,9 +17,17 @@ use Rattle.layers.specs.Layers.{parity, shift, sub, controls}
 abbrev pub in_parity : ℕ → ℕ
 in_parity b = cond (count_ones b % 2 == 0) b (b + 0x80)
 
+-- each byte of t has seven bits
+abbrev pub AreSevenBit : List ℕ → Type 0
+AreSevenBit t = AllByRecursion (λ b. b < 0x80) t
+
 -- s is t with parity
 abbrev pub InParity : List ℕ → List ℕ → Type 0
-InParity t s = AllByRecursion (λ b. b < 0x80) t × (s ≡ map in_parity t)
+InParity t s = AreSevenBit t × (s ≡ map in_parity t)
+
+-- x has an odd number of ones
+abbrev pub HasOddParity : ℕ → Type 0
+HasOddParity x = count_ones x % 2 ≡ 1
 
 -- s is t shifted
 abbrev pub Shifts : List ℕ → List ℕ → Type 0
@@ -33,27 +42,43 @@ BeginsShifted t s = Shifts t s ⊎ ((p : List ℕ) × (s ≡ p ++ 0x19 ∷ []) �
 
 -- x is from 80 up, or below 20 after a 19 that is to shift it
 abbrev pub CannotFollow : List ℕ → ℕ → Type 0
-CannotFollow p x = (0x80 ≤ x) ⊎ ((q t : List ℕ) × (p ≡ q ++ 0x19 ∷ []) × Shifts t q × (x < 0x20))
+CannotFollow p x =
+    (0x80 ≤ x) ⊎ ((q t : List ℕ) × (p ≡ q ++ 0x19 ∷ []) × Shifts t q × (x < 0x20))
+
+-- p and x stand for four bytes that are open
+abbrev pub OpenAtFour : Meaning → List ℕ → ℕ → Type 0
+OpenAtFour m p x =
+    (length p ≡ 3) × (t : List ℕ) × IsOpening m t × BeginsShifted t (p ++ x ∷ [])
+
+-- p and x are, in a form, a string that has a cause below
+abbrev pub FailsBelow : Meaning → (InForm : List ℕ → List ℕ → Type 0) → List ℕ → ℕ → Type 0
+FailsBelow m InForm p x = (t : List ℕ) × InForm t (p ++ x ∷ []) × Unreadable m t
+
+-- a character that is not on the list stands in front
+abbrev pub FindsUnlisted : List ℕ → Meaning → List ℕ → Type 0
+FindsUnlisted ds m s = (c n : ℕ) × Reads m s (Ok (Found c n)) × (on_list ds c ≡ false)
 
 -- s is an opening p, a byte x of which Fault p x holds, and more
 abbrev pub FailsAt : Meaning → (List ℕ → ℕ → Type 0) → List ℕ → Type 0
-FailsAt m Fault s = (p rest : List ℕ) × (x : ℕ) × (s ≡ p ++ x ∷ rest) × IsOpening m p × Fault p x
+FailsAt m Fault s =
+    (p rest : List ℕ) × (x : ℕ) × (s ≡ p ++ x ∷ rest) × IsOpening m p × Fault p x
 
 pub record ParityMeaning (m : Meaning) : Type 0 where
   pub codes : (s : List ℕ) (c : ℕ) → Codes (parity m) s c
       → (t : List ℕ) × InParity t s × Codes m t c
-  pub coded_by : (s t : List ℕ) (c : ℕ) → InParity t s → Codes m t c → Codes (parity m) s c
-  pub opens : (s : List ℕ) → IsOpening (parity m) s → (t : List ℕ) × InParity t s × IsOpening m t
+  pub coded_by : (s t : List ℕ) (c : ℕ) → InParity t s → Codes m t c
+      → Codes (parity m) s c
+  pub opens : (s : List ℕ) → IsOpening (parity m) s
+      → (t : List ℕ) × InParity t s × IsOpening m t
   pub opened_by : (s t : List ℕ) → InParity t s → IsOpening m t → IsOpening (parity m) s
   -- a byte with an odd number of ones, after an opening
-  pub odd_parity : (p rest : List ℕ) (x : ℕ) → IsOpening (parity m) p → count_ones x % 2 ≡ 1
+  pub odd_parity : (p rest : List ℕ) (x : ℕ) → IsOpening (parity m) p → HasOddParity x
       → (parity m).causes (p ++ x ∷ rest) ≡ refusal OddParity
   pub cause_below : (s t rest : List ℕ) → length s ≤ 4 → Unreadable m t → InParity t s
       → (parity m).causes (s ++ rest) ≡ up (m.causes t)
   -- there is no other cause
-  pub causes_only : (s : List ℕ) → AllByRecursion (λ b. b < 0x100) s → Unreadable (parity m) s
-      → FailsAt (parity m) (λ p x. (count_ones x % 2 ≡ 1)
-      ⊎ ((t : List ℕ) × InParity t (p ++ x ∷ []) × Unreadable m t)) s
+  pub causes_only : (s : List ℕ) → AreBytes s → Unreadable (parity m) s
+      → FailsAt (parity m) (λ p x. HasOddParity x ⊎ FailsBelow m InParity p x) s
 
 pub record ShiftMeaning (m : Meaning) : Type 0 where
   pub codes : (s : List ℕ) (c : ℕ) → Codes (shift m) s c
@@ -76,21 +101,21 @@ pub record ShiftMeaning (m : Meaning) : Type 0 where
   -- there is no other cause
   pub causes_only : (s : List ℕ) → Unreadable (shift m) s
       → FailsAt (shift m)
-      (λ p x. CannotFollow p x
-      ⊎ (((length p ≡ 3) × (t : List ℕ) × IsOpening m t × BeginsShifted t (p ++ x ∷ []))
-      ⊎ ((t : List ℕ) × Shifts t (p ++ x ∷ []) × Unreadable m t))) s
+      (λ p x. CannotFollow p x ⊎ (OpenAtFour m p x ⊎ FailsBelow m Shifts p x)) s
 
 pub record SubMeaning (ds : List ℕ) (m : Meaning) : Type 0 where
-  pub codes : (s : List ℕ) (c : ℕ) → Codes (sub ds m) s c → Codes m s c × (on_list ds c ≡ true)
-  pub coded_by : (s : List ℕ) (c : ℕ) → Codes m s c → on_list ds c ≡ true → Codes (sub ds m) s c
+  pub codes : (s : List ℕ) (c : ℕ) → Codes (sub ds m) s c
+      → Codes m s c × (on_list ds c ≡ true)
+  pub coded_by : (s : List ℕ) (c : ℕ) → Codes m s c → on_list ds c ≡ true
+      → Codes (sub ds m) s c
   pub opens : (s : List ℕ) → (sub ds m).openings s ≡ m.openings s
   -- a character off the list
-  pub not_listed : (s : List ℕ) (c n : ℕ) → Reads m s (Ok (Found c n)) → on_list ds c ≡ false
-      → (sub ds m).causes s ≡ refusal NotListed
+  pub not_listed : (s : List ℕ) (c n : ℕ) → Reads m s (Ok (Found c n))
+      → on_list ds c ≡ false → (sub ds m).causes s ≡ refusal NotListed
   pub cause_below : (s : List ℕ) → Unreadable m s → (sub ds m).causes s ≡ up (m.causes s)
   -- there is no other cause
   pub causes_only : (s : List ℕ) → Unreadable (sub ds m) s
-      → Unreadable m s ⊎ ((c n : ℕ) × Reads m s (Ok (Found c n)) × (on_list ds c ≡ false))
+      → Unreadable m s ⊎ FindsUnlisted ds m s
 
 -- c is chosen, reading it alone below gives a cause, and writing it below gives none
 pub record Added (chosen : List Bool) (m : Meaning) (c : ℕ) : Type 0 where

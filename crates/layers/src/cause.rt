@@ -1,19 +1,20 @@
-// Why a layer itself cannot read a string.
+//! Why a layer itself cannot read a string.
 ghost use Rattle.std.specs.Prelude.{◌≡◌};
 ghost use Rattle.layers.specs.Causes.{refusal};
 
 use charset::SetRefusal;
 
-// The numbers are those of the refusals.
+/// Why a layer itself cannot read a string, by the number that its [`SetRefusal`] holds. The depth
+/// is 0.
 #[derive(Clone, Copy, PartialEq, Eq, Debug)]
 pub enum Cause {
-    // A byte has an odd number of ones.
+    /// Parity: a byte has an odd number of ones.
     OddParity = 34,
-    // A byte from 80 up, or 19 before anything but 20 to 7F.
+    /// Shift: a byte from 80 up, or 19 before anything but 20 to 7F.
     NotShifted = 35,
-    // Still open after four bytes.
+    /// Shift: still open after four bytes.
     TooLong = 36,
-    // A character is not on the list.
+    /// Subrepertoire: the character in front is not on the list.
     NotListed = 37,
 }
 

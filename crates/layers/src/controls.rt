@@ -1,4 +1,4 @@
-// Control characters beside the characters of a set.
+//! Control characters beside the characters of a set.
 ghost use Rattle.std.specs.Prelude.{◌≡◌, [], ◌∷◌, is_err};
 ghost use Rattle.charset.specs.Answers.{reading};
 ghost use Rattle.charset.specs.Sets.{set_of};
@@ -9,11 +9,14 @@ ghost use Rattle.layers.specs.Laws.LayersKeep.{controls_laws};
 use crate::deeper::from_below;
 use charset::{CharacterSet, Coding, Reading, SetRefusal};
 
-// Of the 32 control characters the chosen ones, each by its own byte: `chosen[c]` says whether
-// U+00c is chosen.
+/// A set with control characters beside its own, each by its own byte: those chosen that the set
+/// below refuses alone and does not write. Openings are those below, and so are the causes, one
+/// layer up.
 #[derive(Clone, Copy)]
 pub struct Controls<S> {
+    /// Whether each of U+0000 to U+001F is chosen.
     pub chosen: [bool; 32],
+    /// The set below.
     pub below: S,
 }
 

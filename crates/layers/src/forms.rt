@@ -1,4 +1,4 @@
-// The two byte forms: even parity, and the single shift of 7-bit codes.
+//! The two byte forms: even parity, and the single shift of 7-bit codes.
 ghost use Rattle.std.specs.Prelude.{◌≡◌};
 ghost use Rattle.layers.specs.Layers.{even, parity_bytes, shift_bytes};
 ghost use Rattle.layers.specs.Laws.LayersKeep.{parity_agrees, shift_agrees};
@@ -7,7 +7,8 @@ use crate::cause::Cause;
 use crate::recoding::{ByteForm, Move, WrittenByte};
 use charset::SetRefusal;
 
-// Seven bits, and an eighth that makes the number of ones even.
+/// Even parity: a byte below 80 has its top bit set where that makes the number of ones even. A
+/// byte with an odd number of ones is refused with 34.
 #[derive(Clone, Copy)]
 pub struct EvenParity;
 
@@ -43,7 +44,9 @@ impl ByteForm for EvenParity {
     }
 }
 
-// SS2, at 01/09: the byte after it is one of the supplementary set.
+/// The single shift SS2 at 01/09, by which ISO/IEC 6937 is written in seven bits (Annex A): a byte
+/// from A0 to FF is 19 and that byte less 80, and one below 80 other than 19 stays. A byte that
+/// cannot stand where it does is refused with 35.
 #[derive(Clone, Copy)]
 pub struct SingleShift;
 

@@ -1,4 +1,4 @@
-// Four layers, each a character set over any character set.
+//! Four layers, each a character set over any character set.
 #![tactic(auto)]
 
 mod cause;

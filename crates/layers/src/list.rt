@@ -1,22 +1,24 @@
-// A subrepertoire's list of characters.
-ghost use Rattle.std.specs.Prelude.{◌≡◌, ◌<◌, length, IfOk, IfErr, OnOk, OnErr, MatchOption};
+//! A subrepertoire's list of characters.
+ghost use Rattle.std.specs.Prelude.{◌≡◌, ◌<◌, length, IfOk, IfErr, OnOk, OnErr};
+ghost use Rattle.std.specs.Prelude.{MatchOption};
 ghost use Rattle.layers.specs.declared.list.ListRefusal.TheVariants.{NoMemory};
 ghost use Rattle.layers.specs.CharacterList.{required, on_list, rises_at, Rising, Complete, Sound};
 ghost use Rattle.layers.specs.Refusals.{list_told};
 ghost use Rattle.layers.specs.Filled.{FirstNotRising, FirstMissing, FirstUncoded, AllCoded};
-ghost use Rattle.layers.specs.Filled.{Acceptable, Ground, RefusedAs, OneAnswer};
+ghost use Rattle.layers.specs.Filled.{Acceptable, HasGround, RefusedAs, OneAnswer};
 
 use charset::CharacterSet;
 use std::alloc::{AllocError, Global};
 use std::marker::Model;
 
-// How many characters a list may have.
+/// How many characters a list may have.
 pub const MOST_CHARACTERS: usize = 512;
 
-// The last code point.
+/// The last code point.
 pub const LAST_CHARACTER: u32 = 0x10FFFF;
 
-// The characters that every list holds: SPACE, A to Z, a to z, 0 to 9 and ' ( ) + , - . / : = ?
+// The characters that every list holds (ISO/IEC 6937, clause 9): SPACE, A to Z, a to z, 0 to 9 and
+// ' ( ) + , - . / : = ?
 #[rattlefmt::skip]
 const REQUIRED: [u32; 74] = [
     0x20, 0x27, 0x28, 0x29, 0x2B, 0x2C, 0x2D, 0x2E, 0x2F,
@@ -28,25 +30,24 @@ const REQUIRED: [u32; 74] = [
     0x6E, 0x6F, 0x70, 0x71, 0x72, 0x73, 0x74, 0x75, 0x76, 0x77, 0x78, 0x79, 0x7A,
 ];
 
-// Why numbers do not become a list.
+/// Why numbers do not become a list: the first of these that applies.
 #[derive(Clone, Copy, PartialEq, Eq, Debug)]
 pub enum ListRefusal {
-    // There are more than a list may have.
+    /// There are more than [`MOST_CHARACTERS`].
     TooMany,
-    // The number at this index is the first that is not above the one before it or lies over
-    // U+10FFFF.
+    /// The number at this index, from 0, is the first that is not above the one before it or lies
+    /// over U+10FFFF.
     NotIncreasing(usize),
-    // The smallest required character that is not among them.
+    /// The smallest of the 74 required characters that is not among them.
     Missing(u32),
-    // The smallest of them that has no coding in the set.
+    /// The smallest of them that has no coding in the set.
     NoCoding(u32),
-    // There is no memory for the list.
+    /// There is no memory for the list.
     NoMemory,
 }
 
 impl ListRefusal {
-    // The number that a refusal is told by. No `From`: the value that comes with it would be lost
-    // without a word.
+    /// The number that the refusal is told by: 10 to 13, and 0 for want of memory.
     pub fn number(&self) -> u8
         ensures { result ≡ (list_told self.now).number }
     {
@@ -68,8 +69,8 @@ impl From<AllocError> for ListRefusal {
     }
 }
 
-// Characters in increasing order, the required ones among them. In contracts a list is its
-// characters.
+/// At most 512 characters in increasing order, among them the 74 that every list has (ISO/IEC 6937,
+/// clause 9). In contracts a list is its characters.
 #[derive(Drop)]
 pub struct CharacterList {
     characters: Vec<u32>,
@@ -87,7 +88,7 @@ impl Model for CharacterList {
 }
 
 impl CharacterList {
-    // The required characters and no others.
+    /// The required characters and no others; fails only for want of memory.
     pub fn new(heap: Global) -> Result<CharacterList, AllocError>
         ensures characters { IfOk result (λ l. l ≡ required) }
         ensures sound { IfOk result (λ l. Sound l) }
@@ -96,6 +97,7 @@ impl CharacterList {
         Ok(CharacterList { characters })
     }
 
+    /// Whether a character is on the list.
     pub fn contains(&self, character: u32) -> bool
         ensures found { result ≡ on_list self.now character }
         ensures sound { Sound self.now }
@@ -103,7 +105,8 @@ impl CharacterList {
         listed(self.characters.as_slice(), character)
     }
 
-    // Replaces the list by the numbers, or refuses them and changes nothing.
+    /// Replaces the list by these code points, each of which must have a coding in the set. If it
+    /// refuses them, the list stays as it was.
     pub fn fill<S: CharacterSet>(
         &mut self,
         heap: Global,
@@ -125,7 +128,7 @@ impl CharacterList {
 // Whether numbers make a list, whatever memory there is, or why not.
 fn check<S: CharacterSet>(numbers: &[u32], set: &S) -> Result<(), ListRefusal>
     ensures fit { OnOk result (Acceptable (S.codings set.now) numbers.now) }
-    ensures refused { IfErr result (λ why. Ground (S.codings set.now) numbers.now (list_told why)) }
+    ensures refused { IfErr result (HasGround (S.codings set.now) numbers.now) }
 {
     if numbers.len() > MOST_CHARACTERS {
         return Err(ListRefusal::TooMany);

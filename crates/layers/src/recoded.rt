@@ -1,4 +1,4 @@
-// A set under another form of its bytes.
+//! A set under another form of its bytes.
 ghost use Rattle.std.specs.Prelude.{◌≡◌, ◌≤◌, length};
 ghost use Rattle.layers.specs.Meanings.{meaning_of_recoded};
 ghost use Rattle.layers.specs.Recoding.{at_most_four, shifted};
@@ -17,14 +17,18 @@ use scan::Scan;
 // How many bytes a coding has at most.
 const LONGEST_CODING: usize = 4;
 
+/// A set whose bytes are written in another form. A coding below that has a byte with no form, or
+/// takes more than four bytes, has no coding here. A byte that cannot stand where it does is
+/// refused by the form's fault, and a string still open after four bytes with 36.
 #[derive(Clone, Copy)]
 pub struct Recoded<F, S> {
+    /// How each byte of the set below is written.
     pub form: F,
+    /// The set below.
     pub below: S,
 }
 
-// The bytes below that the first four bytes stand for, up to one that cannot stand there. A loop,
-// since a byte can end it and what is held goes on.
+// The bytes below that the first four bytes stand for, up to one that cannot stand there.
 fn scan_front<F: ByteForm>(form: &F, string: &[u8]) -> Scan
     ensures { Scans (F.recoding form.now) string.now result }
 {
@@ -49,6 +53,7 @@ fn scan_front<F: ByteForm>(form: &F, string: &[u8]) -> Scan
     }
 }
 
+// How many bytes a byte below is written in, 0 if it cannot be.
 fn form_size(form: Option<WrittenByte>) -> usize
     ensures { result ≡ form_size form }
 {
@@ -77,8 +82,7 @@ fn append(front: Front, form: WrittenByte) -> Option<Front>
     }
 }
 
-// The bytes below as they are written here, if they take at most four. A loop with `?`: as a fold
-// it is no shorter.
+// The bytes below as they are written here, if they take at most four.
 fn recode<F: ByteForm>(form: &F, bytes: &[u8]) -> Option<Front>
     ensures { result ≡ at_most_four (shifted (F.recoding form.now) bytes.now) }
 {

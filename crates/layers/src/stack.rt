@@ -1,5 +1,5 @@
-// Putting a layer on a set. What is returned means that layer on the set below, keeps the laws as
-// the set below does, and means just what its last clause says.
+//! Putting a layer on a set. What is returned means that layer on the set below, keeps the laws as
+//! the set below does, and means just what its last clause says.
 ghost use Rattle.std.specs.Prelude.{◌≡◌};
 ghost use Rattle.charset.specs.Meaning.{Laws};
 ghost use Rattle.charset.specs.Sets.{set_of};
@@ -13,10 +13,14 @@ use crate::recoded::Recoded;
 use crate::subrepertoire::Subrepertoire;
 use charset::CharacterSet;
 
+/// A set under even parity.
 pub type Parity<S> = Recoded<EvenParity, S>;
 
+/// A set in seven bits, by single shifts.
 pub type Shift<S> = Recoded<SingleShift, S>;
 
+/// Puts even parity on a set: each byte below 80 of a coding gets a top bit that makes its number
+/// of ones even. Other bytes are refused with 34.
 pub fn with_parity<S: CharacterSet>(below: S) -> Parity<S>
     ensures on { result.below ≡ below }
     ensures is_parity { set_of ⟦<Parity<S> as CharacterSet>⟧ result
@@ -30,8 +34,9 @@ pub fn with_parity<S: CharacterSet>(below: S) -> Parity<S>
     }
 }
 
-// Not one function with `with_parity`: each promises what its own form means, which one for all
-// forms cannot say.
+/// Puts the set in seven bits, as Annex A of ISO/IEC 6937 does: a byte from A0 to FF becomes 19 and
+/// that byte less 80. A byte that cannot stand where it does is refused with 35, and a string still
+/// open after four bytes with 36.
 pub fn with_shift<S: CharacterSet>(below: S) -> Shift<S>
     ensures on { result.below ≡ below }
     ensures is_shift { set_of ⟦<Shift<S> as CharacterSet>⟧ result
@@ -45,6 +50,8 @@ pub fn with_shift<S: CharacterSet>(below: S) -> Shift<S>
     }
 }
 
+/// Adds the chosen control characters, U+0000 to U+001F by number, each by its own byte, where the
+/// set below refuses that byte alone and does not write that character.
 pub fn with_controls<S: CharacterSet>(chosen: [bool; 32], below: S) -> Controls<S>
     ensures on { (result.below ≡ below) × (result.chosen ≡ chosen) }
     ensures is_controls { set_of ⟦<Controls<S> as CharacterSet>⟧ result
@@ -55,6 +62,7 @@ pub fn with_controls<S: CharacterSet>(chosen: [bool; 32], below: S) -> Controls<
     Controls { chosen, below }
 }
 
+/// Keeps of a set the characters on a list. Another character in front is refused with 37.
 pub fn with_list<S: CharacterSet>(list: CharacterList, below: S) -> Subrepertoire<S>
     ensures on { (result.below ≡ below) × (result.list ≡ list) }
     ensures is_subrepertoire { set_of ⟦<Subrepertoire<S> as CharacterSet>⟧ result

@@ -1,4 +1,4 @@
-// The characters of a set that stand on a list.
+//! The characters of a set that stand on a list.
 ghost use Rattle.layers.specs.Meanings.{meaning_of_subrepertoire};
 ghost use Rattle.layers.specs.Laws.LayersKeep.{sub_laws};
 
@@ -7,9 +7,13 @@ use crate::deeper::from_below;
 use crate::list::CharacterList;
 use charset::{CharacterSet, Coding, Reading, SetRefusal};
 
+/// The characters of a set that stand on a list, with the codings and openings of that set. Another
+/// character in front is refused with 37.
 #[derive(Drop)]
 pub struct Subrepertoire<S> {
+    /// The characters that are kept.
     pub list: CharacterList,
+    /// The set below.
     pub below: S,
 }
 

@@ -1,6 +1,6 @@
 -- How a builder holds its pages.
-use Rattle.std.specs.Prelude.{◌≡◌, ℕ, ◌+◌, ◌*◌, ◌≤◌, List, [], ◌∷◌, ◌++◌, length, take, drop}
-use Rattle.std.specs.Prelude.{sum_by, All}
+use Rattle.std.specs.Prelude.{◌≡◌, ℕ, ◌+◌, ◌*◌, ◌≤◌, List, [], ◌∷◌}
+use Rattle.std.specs.Prelude.{◌++◌, length, take, drop, sum_by, All}
 use Rattle.roll.specs.declared.TheConstants.{LARGEST_ROLL, MOST_PAGES, ENTRY_BYTES, TRAILER_BYTES}
 use Rattle.roll.specs.declared.TheConstants.{LAST_FORM}
 use Rattle.roll.specs.declared.builder.NewEntry.{NewEntry}

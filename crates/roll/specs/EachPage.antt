@@ -13,6 +13,7 @@ source s = bytes_of s.roll
 -- the next page with its number, from 1, or nothing behind the last
 abbrev pub NextPage : Pages → Option (ℕ × Page) → Pages → Type 0
 NextPage s r t =
-    (source t ≡ source s) × MatchOption r ((s.past ≡ page_count (source s)) × (t.past ≡ s.past))
+    (source t ≡ source s)
+    × MatchOption r ((s.past ≡ page_count (source s)) × (t.past ≡ s.past))
     (λ p. (s.past < page_count (source s)) × (t.past ≡ s.past + 1) × (p.0 ≡ t.past)
     × PartAt (source s) s.past p.1)

@@ -1,6 +1,7 @@
 -- The format of a roll: pages, then an index, then a trailer of sixteen bytes.
-use Rattle.std.specs.Prelude.{◌≡◌, ℕ, zero, suc, ◌+◌, ◌-◌, ◌*◌, ◌<◌, ◌≤◌, Bool, true, cond, ◌&&◌}
-use Rattle.std.specs.Prelude.{List, [], ◌++◌, length, take, drop, ◌==◌, nat_le, slice_index}
+use Rattle.std.specs.Prelude.{◌≡◌, ℕ, zero, suc, ◌+◌, ◌-◌, ◌*◌, ◌<◌}
+use Rattle.std.specs.Prelude.{◌≤◌, Bool, true, cond, ◌&&◌, List, [], ◌++◌, length}
+use Rattle.std.specs.Prelude.{take, drop, ◌==◌, nat_le, slice_index}
 use Rattle.roll.specs.declared.TheConstants.{SMALLEST_ROLL, LARGEST_ROLL, MOST_PAGES, ENTRY_BYTES}
 use Rattle.roll.specs.declared.TheConstants.{TRAILER_BYTES, LAST_FORM}
 use Rattle.roll.specs.declared.roll.TheConstants.{MARK}

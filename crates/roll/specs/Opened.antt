@@ -1,5 +1,6 @@
 -- What opening a roll answers.
-use Rattle.std.specs.Prelude.{◌≡◌, ℕ, zero, suc, ◌<◌, true, false, List, take, Ok, Err, Result, ◌≢◌}
+use Rattle.std.specs.Prelude.{◌≡◌, ℕ, zero, suc, ◌<◌, true, false, List, take, Ok, Err}
+use Rattle.std.specs.Prelude.{Result, ◌≢◌}
 use Rattle.roll.specs.declared.refusal.RollRefusal.{RollRefusal}
 use Rattle.roll.specs.declared.refusal.RollRefusal.TheVariants.{WrongSize, NoMark, WrongIndex}
 use Rattle.roll.specs.declared.refusal.RollRefusal.TheVariants.{BadEntry, WrongTotal}
@@ -11,7 +12,8 @@ use Rattle.roll.specs.Format.{NoPagesNoBytes, EntriesHold, Totalled, joined}
 abbrev pub FirstBad : List ℕ → ℕ → Type 0
 FirstBad b zero = (page_count b ≡ 0) × (index_offset b ≢ 0)
 FirstBad b (suc k) =
-    (k < page_count b) × ((i : ℕ) → i < k → entry_holds b i ≡ true) × (entry_holds b k ≡ false)
+    (k < page_count b) × ((i : ℕ) → i < k → entry_holds b i ≡ true)
+    × (entry_holds b k ≡ false)
 
 -- the sum of the lengths, where every entry keeps the rules
 abbrev pub Checked : List ℕ → Result ℕ RollRefusal → Type 0
@@ -23,9 +25,10 @@ pub data Refuses (b : List ℕ) : RollRefusal → Type 0 where
   wrong_size : ¬ Sized b → Refuses b WrongSize
   no_mark : Sized b → ¬ Marked b → Refuses b NoMark
   wrong_index : Sized b → Marked b → ¬ Indexed b → Refuses b WrongIndex
-  bad_entry : (n : ℕ) → Sized b → Marked b → Indexed b → FirstBad b n → Refuses b (BadEntry n)
-  wrong_total : Sized b → Marked b → Indexed b → NoPagesNoBytes b → EntriesHold b → ¬ Totalled b
-      → Refuses b WrongTotal
+  bad_entry : (n : ℕ) → Sized b → Marked b → Indexed b → FirstBad b n
+      → Refuses b (BadEntry n)
+  wrong_total : Sized b → Marked b → Indexed b → NoPagesNoBytes b → EntriesHold b
+      → ¬ Totalled b → Refuses b WrongTotal
 
 -- a roll that keeps every rule; its pages, joined, are all that comes before the index
 pub record Accepted (b : List ℕ) : Type 0 where

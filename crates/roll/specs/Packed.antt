@@ -1,6 +1,6 @@
 -- The bytes of a roll as it is packed.
-use Rattle.std.specs.Prelude.{ℕ, ◌+◌, ◌*◌, ◌/◌, ◌%◌, ◌<◌, ◌≤◌, List, [], ◌∷◌, ◌++◌, length, Ok, Err}
-use Rattle.std.specs.Prelude.{Result, All, codes}
+use Rattle.std.specs.Prelude.{ℕ, ◌+◌, ◌*◌, ◌/◌, ◌%◌, ◌<◌, ◌≤◌, List, []}
+use Rattle.std.specs.Prelude.{◌∷◌, ◌++◌, length, Ok, Err, Result, All, codes}
 use Rattle.roll.specs.declared.pack_refusal.PackRefusal.{PackRefusal}
 use Rattle.roll.specs.declared.pack_refusal.PackRefusal.TheVariants.{FormTooHigh, TooManyPages}
 use Rattle.roll.specs.declared.pack_refusal.PackRefusal.TheVariants.{TooLong, NoMemory}
@@ -58,7 +58,8 @@ abbrev pub size_with : (used size : ℕ) → ℕ
 size_with used size = used + ENTRY_BYTES + size + TRAILER_BYTES
 
 -- whether a roll can hold a page more: the first reason that it cannot
-abbrev pub RoomFor : {X : Type 0} → (form count used size : ℕ) → Result X PackRefusal → Type 0
+abbrev pub RoomFor : {X : Type 0} → (form count used size : ℕ) → Result X PackRefusal
+    → Type 0
 RoomFor form count used size (Ok b) =
     (form ≤ LAST_FORM) × (count < MOST_PAGES) × (size_with used size ≤ LARGEST_ROLL)
 RoomFor form count used size (Err FormTooHigh) = LAST_FORM < form

@@ -1,5 +1,6 @@
 -- Which part of a roll a page is.
-use Rattle.std.specs.Prelude.{◌≡◌, ℕ, ◌-◌, ◌<◌, ◌≤◌, ◌⊎◌, List, Ok, Err, Result}
+use Rattle.std.specs.Prelude.{◌≡◌, ℕ, ◌-◌, ◌<◌, ◌≤◌, ◌⊎◌, List, Ok, Err}
+use Rattle.std.specs.Prelude.{Result}
 use Rattle.roll.specs.declared.refusal.RollRefusal.{RollRefusal}
 use Rattle.roll.specs.declared.refusal.RollRefusal.TheVariants.{NoSuchPage}
 use Rattle.roll.specs.declared.page.Page.{Page}
@@ -11,7 +12,8 @@ use Rattle.roll.specs.Format.{page_count, offset, form, page_bytes}
 abbrev pub PartAt : List ℕ → ℕ → Page → Type 0
 PartAt b k (Text f part at) =
     (form b k ≡ form_number f) × (part.now ≡ page_bytes b k) × (at ≡ offset b k)
-PartAt b k (Picture part at) = (form b k ≡ 0) × (part.now ≡ page_bytes b k) × (at ≡ offset b k)
+PartAt b k (Picture part at) =
+    (form b k ≡ 0) × (part.now ≡ page_bytes b k) × (at ≡ offset b k)
 
 -- pages count from 1
 abbrev pub PageAt : List ℕ → ℕ → Result Page RollRefusal → Type 0

@@ -1,5 +1,6 @@
-// A roll that is being packed.
-ghost use Rattle.std.specs.Prelude.{◌≡◌, ◌+◌, ◌≤◌, [], ◌∷◌, ◌++◌, length, sum_by, IfOk, OnOk};
+//! A roll that is being packed.
+ghost use Rattle.std.specs.Prelude.{◌≡◌, ◌+◌, ◌≤◌, [], ◌∷◌, ◌++◌, length};
+ghost use Rattle.std.specs.Prelude.{sum_by, IfOk, OnOk};
 ghost use Rattle.roll.specs.Packed.{trailer_of};
 ghost use Rattle.roll.specs.Built.{index_of};
 
@@ -15,10 +16,12 @@ struct NewEntry {
     size: u32,
 }
 
+/// Packs pages into a roll. In contracts it is the pages so far, each a form and bytes.
 #[derive(Drop)]
 pub struct Builder {
     // The bytes of the pages, one page behind the other.
     bytes: Vec<u8>,
+    // An entry for each page, in their order.
     entries: Vec<NewEntry>,
 }
 
@@ -39,7 +42,7 @@ impl Builder {
     ghost use Rattle.roll.specs.Packed.{PackedPage, page_of, used_by, packed, RoomFor, FitsRoll};
     ghost use Rattle.roll.specs.RollOf.{IsRollOf};
 
-    // No pages yet.
+    /// No pages yet.
     pub fn new(heap: Global) -> Builder
         ensures { result ≡ [] }
     {
@@ -49,6 +52,7 @@ impl Builder {
         }
     }
 
+    // How many pages there are.
     #[tactic(auto, using(crate::proofs::Built::the_pages))]
     fn page_count(&self) -> usize
         ensures { result ≡ length self.now }
@@ -56,7 +60,7 @@ impl Builder {
         self.entries.len()
     }
 
-    // The bytes of the roll as it stands.
+    // How many bytes the roll has as it stands.
     #[tactic(auto, using(crate::proofs::Built::the_pages))]
     fn roll_size(&self) -> usize
         ensures size { result ≡ used_by self.now + TRAILER_BYTES }
@@ -65,8 +69,9 @@ impl Builder {
         self.bytes.len() + ENTRY_BYTES * self.entries.len() + TRAILER_BYTES
     }
 
-    // One page more, behind the others. The form is any number: that one above 7 is refused is a
-    // part of the promise.
+    /// One page more, behind the others, by the number of its form, 0 for a picture. Refused are a
+    /// form above 7, a page beyond the 1,024th, and one with which the roll would have more than
+    /// 1,048,576 bytes.
     #[tactic(auto, using(crate::proofs::Built::pages_in_push))]
     pub fn with_page(self, form: u8, page: &[u8]) -> Result<Builder, PackRefusal>
         ensures fits { FitsRoll self }
@@ -95,7 +100,8 @@ impl Builder {
         Ok(Builder { bytes, entries })
     }
 
-    // The roll: the pages, the index and the trailer. It opens, and its pages are these.
+    /// The bytes of the roll: the pages, the index and the trailer. They open, and the pages are
+    /// these.
     #[tactic(auto, using(crate::proofs::Built::the_pages))]
     pub fn finish(self) -> Result<Vec<u8>, AllocError>
         ensures fits { FitsRoll self }
@@ -111,7 +117,7 @@ impl Builder {
     }
 }
 
-// The index, an entry to a page. A loop with `?`: as a fold over the offset it is no shorter.
+// Writes the index, an entry to a page.
 fn write_index(roll: &mut Vec<u8>, entries: &[NewEntry]) -> Result<(), AllocError>
     requires { sum_by (λ e. e.size) entries.now ≤ LARGEST_ROLL }
     ensures { OnOk result (roll.new.items ≡ roll.old.items ++ index_of 0 entries.now) }
@@ -126,6 +132,7 @@ fn write_index(roll: &mut Vec<u8>, entries: &[NewEntry]) -> Result<(), AllocErro
     Ok(())
 }
 
+// Writes the trailer, which has the total of the pages' lengths and their count.
 fn write_trailer(roll: &mut Vec<u8>, total: u32, count: u32) -> Result<(), AllocError>
     ensures { OnOk result (roll.new.items ≡ roll.old.items ++ trailer_of total count) }
 {

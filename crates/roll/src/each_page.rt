@@ -1,4 +1,4 @@
-// The pages of a roll, one after the other.
+//! The pages of a roll, one after the other.
 ghost use Rattle.std.specs.Prelude.{◌≤◌, ◌-◌};
 ghost use Rattle.std.specs.Iterator.{at_most};
 ghost use Rattle.roll.specs.Format.{page_count};
@@ -7,15 +7,15 @@ ghost use Rattle.roll.specs.Rolls.{bytes_of};
 use crate::page::Page;
 use crate::roll::Roll;
 
-// A roll, and how many of its pages have come.
+/// The pages of a roll, one after the other, each with its number, from 1.
 #[derive(Clone, Copy)]
 pub struct Pages<'a> {
     pub(crate) roll: Roll<'a>,
+    // How many pages have come.
     pub(crate) past: usize,
     pub(crate) ghost within: { past ≤ page_count (bytes_of roll) },
 }
 
-// Each page comes with its number, from 1.
 impl<'a> Iterator for Pages<'a> {
     type Item = (usize, Page<'a>);
 

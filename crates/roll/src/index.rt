@@ -1,4 +1,4 @@
-// The index of a roll, and the rules of its entries.
+//! The index of a roll, and the rules of its entries.
 ghost use Rattle.std.specs.Prelude.{◌≡◌, ◌+◌, ◌<◌, ◌≤◌, length};
 ghost use Rattle.roll.specs.Format.{word, index_offset, page_count, starts, Indexed};
 
@@ -72,8 +72,7 @@ impl Index<'_> {
         Ok(entry.end)
     }
 
-    // Where the last page ends, which is the sum of the lengths, if every entry keeps the rules. A
-    // loop with `?`: as a fold over the end of the page before it is no shorter.
+    // Where the last page ends, which is the sum of the lengths, if every entry keeps the rules.
     pub(crate) fn checked_total(&self) -> Result<usize, RollRefusal>
         ensures { Checked self.now.bytes.now result }
     {

@@ -1,4 +1,4 @@
-// Why a roll cannot hold a page.
+//! Why a roll cannot hold a page.
 ghost use Rattle.std.specs.Prelude.{Some};
 ghost use Rattle.roll.specs.Messages.{message};
 
@@ -6,14 +6,17 @@ use std::alloc::AllocError;
 use std::error::Error;
 use std::fmt;
 
+/// Why a roll cannot hold a page: the first of these that applies. It has no number; its message
+/// says it.
 #[derive(Clone, Copy, PartialEq, Eq, Debug)]
 pub enum PackRefusal {
-    // The form is above 7.
+    /// The form is above 7.
     FormTooHigh,
-    // There are 1,024 pages already.
+    /// There are 1,024 pages already.
     TooManyPages,
-    // The roll would have more than 1,048,576 bytes.
+    /// The roll would have more than 1,048,576 bytes.
     TooLong,
+    /// There is no memory for it.
     NoMemory,
 }
 

@@ -1,27 +1,28 @@
-// A page of a roll: text with its form, or a picture.
+//! A page of a roll: text with its form, or a picture.
 ghost use Rattle.std.specs.Prelude.{◌≡◌};
 ghost use Rattle.roll.specs.Forms.{form_number, FormOf};
 
-// The form of a page of text: its character set with the layers on it.
+/// The form of a page of text: its character set with the layers on it. As a `u8` it is the number
+/// in the index, from 1 to 7 in this order.
 #[derive(Clone, Copy, PartialEq, Eq, Debug)]
 pub enum Form {
-    // ISO/IEC 6937 in eight bits.
+    /// ISO/IEC 6937 in eight bits.
     EightBit,
-    // ISO/IEC 6937 in seven bits, by single shifts.
+    /// ISO/IEC 6937 in seven bits, by single shifts.
     SevenBit,
-    // The same with even parity.
+    /// The same with even parity.
     SevenBitParity,
-    // ISO/IEC 8859-16.
+    /// ISO/IEC 8859-16.
     Latin10,
-    // The Sami set.
+    /// The Sami set, ISO-IR 209.
     Sami,
-    // UTF-8.
+    /// UTF-8.
     Unicode,
-    // The 74 characters that every list has, in ISO/IEC 6937.
+    /// The 74 characters that every list has, in ISO/IEC 6937.
     Basic,
 }
 
-// A number that no form of text has.
+/// A number that no form of text has.
 #[derive(Clone, Copy, PartialEq, Eq, Debug)]
 pub struct UnknownForm(pub u8);
 
@@ -60,15 +61,16 @@ impl TryFrom<u8> for Form {
     }
 }
 
-// The part of the roll that the page is, and where it begins in the roll.
-// An enum and no struct with an optional form: a picture and a text are read in different ways.
+/// A page: the part of the roll that it is, and at which byte of the roll that begins, from 0.
 #[derive(Clone, Copy)]
 pub enum Page<'a> {
+    /// Text in a form.
     Text {
         form: Form,
         part: &'a [u8],
         offset: usize,
     },
+    /// A picture, form 0, which has no text.
     Picture {
         part: &'a [u8],
         offset: usize,

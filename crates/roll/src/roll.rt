@@ -1,4 +1,4 @@
-// A roll, opened.
+//! A roll, opened.
 ghost use Rattle.std.specs.Prelude.{◌≡◌, IfOk, IfErr};
 ghost use Rattle.roll.specs.Format.{page_count};
 ghost use Rattle.roll.specs.Opened.{Accepted, Refuses, OneAnswer};
@@ -13,7 +13,7 @@ use crate::{ENTRY_BYTES, LARGEST_ROLL, MOST_PAGES, SMALLEST_ROLL, TRAILER_BYTES}
 // The letters ROLL.
 const MARK: u32 = 0x524F_4C4C;
 
-// A roll that keeps every rule of the format.
+/// A roll that keeps every rule of the format.
 #[derive(Clone, Copy)]
 pub struct Roll<'a> {
     index: Index<'a>,
@@ -22,13 +22,14 @@ pub struct Roll<'a> {
 
 impl<'a> Roll<'a> {
     ghost use Rattle.roll.specs.Pages.{PageAt};
-    ghost use Rattle.roll.specs.Rolls.{bytes_of};
+    ghost use Rattle.roll.specs.Rolls.{bytes_of, IsRoll};
     ghost use Rattle.roll.specs.EachPage.{source};
 
-    // Checks every rule, in the order of their numbers.
+    /// Checks every rule of the format, in the order of the refusals' numbers, and refuses the
+    /// bytes by the first that they break.
     #[tactic(auto, using(crate::proofs::OneAnswer::one_answer))]
     pub fn open(bytes: &'a [u8]) -> Result<Roll<'a>, RollRefusal>
-        ensures opened { IfOk result (λ roll. (bytes_of roll ≡ bytes.now) × Accepted bytes.now) }
+        ensures opened { IfOk result (IsRoll bytes.now) }
         ensures refused { IfErr result (Refuses bytes.now) }
         ensures one_answer { OneAnswer bytes.now }
     {
@@ -56,14 +57,14 @@ impl<'a> Roll<'a> {
         Ok(Roll { index })
     }
 
-    // How many pages it has.
+    /// How many pages it has.
     pub fn count(&self) -> usize
         ensures { result ≡ page_count (bytes_of self.now) }
     {
         self.index.count
     }
 
-    // A page by its number, from 1.
+    /// A page by its number, from 1; [`RollRefusal::NoSuchPage`] for 0 or a number above the count.
     #[tactic(auto, using(crate::proofs::Inside::page_inside))]
     pub fn page(&self, number: usize) -> Result<Page<'a>, RollRefusal>
         ensures { PageAt (bytes_of self.now) number result }
@@ -81,7 +82,7 @@ impl<'a> Roll<'a> {
         })
     }
 
-    // All its pages, from the first.
+    /// All its pages with their numbers, from the first.
     pub fn pages(&self) -> Pages<'a>
         ensures from_here { source result ≡ bytes_of self.now }
         ensures first { result.past ≡ 0 }

@@ -1,7 +1,8 @@
 -- A code table of single bytes: ASCII in the lower half, and six columns of sixteen rows in the
 -- upper.
-use Rattle.std.specs.Prelude.{ℕ, ◌-◌, ◌/◌, ◌%◌, Bool, true, false, cond, ◌&&◌, List, [], Some, None}
-use Rattle.std.specs.Prelude.{Option, ◌==◌, nat_le, nat_lt, slice_index, slice_index_or}
+use Rattle.std.specs.Prelude.{ℕ, ◌-◌, ◌/◌, ◌%◌, Bool, true, false, cond, ◌&&◌}
+use Rattle.std.specs.Prelude.{List, [], Some, None, Option, ◌==◌, nat_le, nat_lt, slice_index}
+use Rattle.std.specs.Prelude.{slice_index_or}
 use Rattle.sets.specs.Search.{first_from, every_from}
 
 -- 02/00 to 07/14, where the character's number is the byte's

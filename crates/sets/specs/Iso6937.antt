@@ -1,6 +1,6 @@
 -- ISO/IEC 6937:1994 in its 8-bit form, by Table 4.
-use Rattle.std.specs.Prelude.{ℕ, Bool, true, false, cond, List, [], ◌∷◌, is_some, Some, None}
-use Rattle.std.specs.Prelude.{Option, ◌==◌}
+use Rattle.std.specs.Prelude.{ℕ, Bool, true, false, cond, List, [], ◌∷◌, is_some, Some}
+use Rattle.std.specs.Prelude.{None, Option, ◌==◌}
 use Rattle.std.specs.Option.{option_map}
 use Rattle.charset.specs.declared.SetRefusal.{SetRefusal}
 use Rattle.charset.specs.Meaning.{Codings, Meaning, meaning}

@@ -1,6 +1,6 @@
 -- Searches from the front.
-use Rattle.std.specs.Prelude.{ℕ, zero, suc, Bool, true, cond, ◌&&◌, List, [], ◌∷◌, Some, None}
-use Rattle.std.specs.Prelude.{Option}
+use Rattle.std.specs.Prelude.{ℕ, zero, suc, Bool, true, cond, ◌&&◌, List, [], ◌∷◌, Some}
+use Rattle.std.specs.Prelude.{None, Option}
 
 abbrev pub when : {A : Type 0} → Bool → A → Option A
 when b x = cond b (Some x) None

@@ -1,6 +1,7 @@
 -- UTF-8, by RFC 3629.
-use Rattle.std.specs.Prelude.{ℕ, ◌+◌, ◌-◌, ◌*◌, ◌/◌, ◌%◌, ◌<◌, Bool, true, false, cond, ◌&&◌, List}
-use Rattle.std.specs.Prelude.{[], ◌∷◌, ◌++◌, length, Some, None, Option, ◌==◌, nat_le, nat_lt}
+use Rattle.std.specs.Prelude.{ℕ, ◌+◌, ◌-◌, ◌*◌, ◌/◌, ◌%◌, ◌<◌, Bool, true}
+use Rattle.std.specs.Prelude.{false, cond, ◌&&◌, List, [], ◌∷◌, ◌++◌, length, Some}
+use Rattle.std.specs.Prelude.{None, Option, ◌==◌, nat_le, nat_lt}
 use Rattle.charset.specs.declared.SetRefusal.{SetRefusal}
 use Rattle.charset.specs.Meaning.{Codings, Meaning, meaning, Codes, IsOpening}
 use Rattle.sets.specs.declared.cause.Cause.TheVariants.{Malformed}

@@ -1,17 +1,18 @@
-// Why a set of this crate cannot read a string.
+//! Why a set of this crate cannot read a string.
 ghost use Rattle.std.specs.Prelude.{◌≡◌};
 ghost use Rattle.sets.specs.Causes.{refusal};
 
 use charset::SetRefusal;
 
-// The numbers are those of the refusals.
+/// Why a set of this crate cannot read a string, by the number that its [`SetRefusal`] holds. The
+/// depth is 0.
 #[derive(Clone, Copy, PartialEq, Eq, Debug)]
 pub enum Cause {
-    // The first byte is no position in use.
+    /// The first byte is no position in use: the single-byte sets and ISO/IEC 6937.
     NotInUse = 31,
-    // A diacritic stands before a byte with which it makes no pair.
+    /// A diacritic stands before a byte with which it makes no pair of ISO/IEC 6937:1994, Table 4.
     NoPair = 32,
-    // The bytes begin no UTF-8 character.
+    /// The bytes begin no UTF-8 character (RFC 3629, section 4).
     Malformed = 33,
 }
 

@@ -1,15 +1,17 @@
-// A code table of single bytes: ASCII in the lower half, and in the upper the columns 10 to 15 with
-// sixteen rows each, so bytes A0 to FF, with the code point at each position, or 0 where no
-// character stands: no `Option`, so that the table can be laid beside the printed one.
+//! A code table of single bytes.
 ghost use Rattle.std.specs.Prelude.{◌≡◌};
 ghost use Rattle.sets.specs.Columns.{upper_at, character_at, upper_of, byte_of};
 
+/// A code table of single bytes: ASCII in the lower half, and a table of its own in the upper.
 #[derive(Clone, Copy)]
 pub struct CodeTable {
+    /// Columns 10 to 15 of sixteen rows each, bytes A0 to FF: the code point at each position, 0
+    /// where no character stands.
     pub columns: [[u32; 16]; 6],
 }
 
 impl CodeTable {
+    // The code point at a byte of the upper half.
     fn upper_at(&self, byte: u8) -> Option<u32>
         ensures { result ≡ upper_at self.now.columns byte }
     {
@@ -21,8 +23,8 @@ impl CodeTable {
         (character != 0).then_some(character)
     }
 
-    // The first byte from A0 on that has the character. Over `0..96`, since `0xA0..=0xFF` takes one
-    // and a half times the instructions.
+    // The first byte from A0 on that has the character. `0xA0..=0xFF` takes one and a half times
+    // the instructions.
     fn upper_of(&self, character: u32) -> Option<u8>
         ensures { result ≡ upper_of self.now.columns character }
     {
@@ -31,6 +33,7 @@ impl CodeTable {
             .find(|byte| self.upper_at(*byte) == Some(character))
     }
 
+    /// The code point that a byte codes; `None` where the position is not in use.
     pub fn character_at(&self, byte: u8) -> Option<u32>
         ensures { result ≡ character_at self.now.columns byte }
     {
@@ -40,6 +43,7 @@ impl CodeTable {
         }
     }
 
+    /// The byte that codes a code point; `None` if none does.
     pub fn byte_of(&self, character: u32) -> Option<u8>
         ensures { result ≡ byte_of self.now.columns character }
     {

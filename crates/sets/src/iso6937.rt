@@ -1,4 +1,4 @@
-// ISO/IEC 6937:1994 in its 8-bit form: a letter's accent is a byte before it.
+//! ISO/IEC 6937:1994 in its 8-bit form.
 ghost use Rattle.sets.specs.Iso6937.{iso6937_codings, iso6937_openings, iso6937_causes};
 ghost use Rattle.sets.specs.Laws.Iso6937.{iso6937_laws};
 
@@ -9,6 +9,9 @@ use crate::reading::found;
 use charset::{CharacterSet, Coding, Reading, SetRefusal};
 use table::{accented, letters_of, pair_of, single, single_byte};
 
+/// ISO/IEC 6937:1994 in its 8-bit form, by Table 4: a character is one byte, or a diacritic and the
+/// letter under it. The thirteen diacritics are openings. A byte that is no position in use is
+/// refused with 31, and a diacritic before a byte with which it makes no pair with 32.
 #[derive(Clone, Copy)]
 pub struct Iso6937;
 

@@ -1,4 +1,4 @@
-// The single-byte sets: ASCII in the lower half, and a table of their own in the upper.
+//! The single-byte sets: ASCII in the lower half, and a table of their own in the upper.
 ghost use Rattle.std.specs.Prelude.{◌≡◌, true};
 ghost use Rattle.sets.specs.Columns.{one_to_one};
 ghost use Rattle.sets.specs.SingleByte.{single_byte_codings, single_byte_openings};
@@ -33,22 +33,23 @@ const SAMI: CodeTable = CodeTable { columns: [
     [0x00F0, 0x00F1, 0x00F2, 0x00F3, 0x00F4, 0x00F5, 0x00F6, 0x00F7, 0x00F8, 0x00F9, 0x00FA, 0x00FB, 0x00FC, 0x00FD, 0x00FE, 0x00FF],
 ] };
 
-// A set by its code table, in which no character stands twice.
+/// A set of single bytes by its code table, in which no character stands twice. 00 to 1F and 7F to
+/// 9F, as every byte whose position is not in use, are refused with 31.
 #[derive(Clone, Copy)]
 pub struct SingleByte {
     table: CodeTable,
     ghost unambiguous: { one_to_one table.columns ≡ true },
 }
 
-// One constructor for each table: one that took any table would have to refuse those in which a
-// character stands twice.
 impl SingleByte {
+    /// ISO/IEC 8859-16:2001, Table 1.
     pub fn iso8859_16() -> SingleByte
         ensures { result.table.columns ≡ iso8859_16 }
     {
         SingleByte { table: ISO_8859_16 }
     }
 
+    /// The Sami set for ISO/IEC 8859 environments, whose upper half is ISO-IR 209.
     pub fn sami() -> SingleByte
         ensures { result.table.columns ≡ sami }
     {

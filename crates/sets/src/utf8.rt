@@ -1,5 +1,6 @@
-// UTF-8, by RFC 3629.
-ghost use Rattle.std.specs.Prelude.{◌≡◌, ◌+◌, ◌-◌, ◌*◌, ◌^◌, ◌<◌, ◌≤◌};
+//! UTF-8, by RFC 3629.
+ghost use Rattle.std.specs.Prelude.{◌≡◌, ◌+◌, ◌-◌, ◌*◌, ◌^◌, ◌<◌};
+ghost use Rattle.std.specs.Prelude.{◌≤◌};
 ghost use Rattle.charset.specs.Answers.{Reads};
 ghost use Rattle.sets.specs.Utf8.{utf8, OpeningsBeginCodings, utf8_codings, utf8_openings};
 ghost use Rattle.sets.specs.Utf8.{utf8_causes, lead, second, tail, low_bits};
@@ -9,17 +10,20 @@ use crate::cause::Cause;
 use crate::reading::found;
 use charset::{CharacterSet, Coding, Reading, SetRefusal};
 
+/// UTF-8, by RFC 3629: one to four octets, no overlong forms, no surrogates, nothing above
+/// U+10FFFF. The openings are the proper beginnings of codings. All else is refused with 33, at the
+/// shortest beginning from which no coding can come about.
 #[derive(Clone, Copy)]
 pub struct Utf8;
 
-// Whether a is the first octet of a character of two to four octets.
+// Whether `a` is the first octet of a character of two to four octets (section 4).
 fn is_lead(a: u8) -> bool
     ensures { result ≡ lead a }
 {
     matches!(a, 0xC2..=0xF4)
 }
 
-// Whether b may follow the first octet a.
+// Whether `b` may follow the first octet `a` (section 4).
 fn is_second(a: u8, b: u8) -> bool
     ensures { result ≡ second a b }
 {
@@ -33,6 +37,7 @@ fn is_second(a: u8, b: u8) -> bool
     seconds.contains(&b)
 }
 
+// Whether `b` may stand behind the second octet (section 4).
 fn is_tail(b: u8) -> bool
     ensures { result ≡ tail b }
 {
@@ -48,7 +53,7 @@ fn with_bits(so_far: u32, octet: u8) -> u32
     so_far * 64 + (octet as u32 - 0x80)
 }
 
-// The character in front, octet by octet.
+// The character in front, octet by octet, by the table of section 3.
 fn front(bytes: &[u8]) -> Result<Reading, SetRefusal>
     ensures { Reads utf8 bytes.now result }
 {
@@ -68,7 +73,7 @@ fn front(bytes: &[u8]) -> Result<Reading, SetRefusal>
     }
 }
 
-// A tail octet with the six lowest bits of n.
+// A tail octet with the six lowest bits of `n`.
 fn low_bits(n: u32) -> u8
     ensures { result ≡ low_bits n }
 {
@@ -84,10 +89,7 @@ impl CharacterSet for Utf8 {
 
     ghost lawful = { λ s. utf8_laws };
 
-    fn read(&self, bytes: &[u8]) -> Result<Reading, SetRefusal>
-        ensures reads { Reads utf8 bytes.now result }
-        ensures openings_begin_codings { OpeningsBeginCodings }
-    {
+    fn read(&self, bytes: &[u8]) -> Result<Reading, SetRefusal> {
         front(bytes)
     }
 
@@ -106,3 +108,10 @@ impl CharacterSet for Utf8 {
         }
     }
 }
+
+/// Proves that every opening of UTF-8 is a proper beginning of a coding: with some octets, one or
+/// more, behind it, it is the coding of a character. There is nothing to run.
+#[tactic(auto, using(crate::specs::Laws::Utf8::openings_begin_codings))]
+pub fn openings_begin_codings()
+    ensures { OpeningsBeginCodings }
+{}

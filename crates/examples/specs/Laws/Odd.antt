@@ -1,6 +1,6 @@
 -- The odd set keeps the laws, and what it cannot read.
-use Rattle.std.specs.Prelude.{◌≡◌, ℕ, zero, suc, ◌<◌, ◌≤◌, true, List, [], ◌∷◌, length, take, Some}
-use Rattle.std.specs.Prelude.{None, ◌≢◌, slice_index, refl}
+use Rattle.std.specs.Prelude.{◌≡◌, ℕ, zero, suc, ◌<◌, ◌≤◌, true, List, []}
+use Rattle.std.specs.Prelude.{◌∷◌, length, take, Some, None, ◌≢◌, slice_index, refl}
 use Rattle.std.proofs.Common.{arith}
 use Rattle.std.specs.List.{AllByRecursion}
 use Rattle.std.proofs.lemmas.Bool.Decides.{nat_tests}
@@ -18,7 +18,8 @@ read (a ∷ []) c e = grind (arith, nat_tests)
 read (a ∷ b ∷ []) c e = grind (arith, nat_tests)
 read (a ∷ b ∷ d ∷ s) c e = cc
 
-sized : (s : List ℕ) (c : ℕ) → odd_character s ≡ Some c → (0 < length s) × (length s ≤ 4)
+sized : (s : List ℕ) (c : ℕ) → odd_character s ≡ Some c
+    → (0 < length s) × (length s ≤ 4)
 sized [] c e = cc
 sized (a ∷ []) c e = (omega arith, omega arith)
 sized (a ∷ b ∷ []) c e = (omega arith, omega arith)
@@ -55,7 +56,8 @@ coding_begins (a ∷ b ∷ []) c (suc zero) e h = grind (arith, nat_tests)
 coding_begins (a ∷ b ∷ []) c (suc (suc n)) e h = absurd (omega arith)
 coding_begins (a ∷ b ∷ d ∷ s) c (suc n) e h = cc
 
-opening_begins : (s : List ℕ) (n : ℕ) → odd_openings s ≡ true → odd_openings (take n s) ≡ true
+opening_begins : (s : List ℕ) (n : ℕ) → odd_openings s ≡ true
+    → odd_openings (take n s) ≡ true
 opening_begins s zero o = refl
 opening_begins [] (suc n) o = refl
 opening_begins (a ∷ []) (suc zero) o = o

@@ -1,6 +1,7 @@
 -- Each layer over a lawful set is a lawful set.
-use Rattle.std.specs.Prelude.{◌≡◌, ℕ, ◌+◌, ◌*◌, ◌%◌, ◌^◌, ◌<◌, Bool, true, false, cond, ◌⊎◌, List}
-use Rattle.std.specs.Prelude.{[], ◌∷◌, length, take, Some, None, Ok, Err, Option, is_err, refl}
+use Rattle.std.specs.Prelude.{◌≡◌, ℕ, ◌+◌, ◌*◌, ◌%◌, ◌^◌, ◌<◌, Bool}
+use Rattle.std.specs.Prelude.{true, false, cond, ◌⊎◌, List, [], ◌∷◌, length, take, Some}
+use Rattle.std.specs.Prelude.{None, Ok, Err, Option, is_err, refl}
 use Rattle.std.proofs.Common.{ap, ◌∙◌, inl, inr, arith, lit<, lit≤}
 use Rattle.std.specs.Int.Count.{ones}
 use Rattle.std.specs.Option.{option_or}
@@ -45,7 +46,8 @@ seal b h =
 top_bit : (x : ℕ) → x < 256 → (x ≡ x % 128) ⊎ (x ≡ x % 128 + 128)
 top_bit x h = elim (cases_lt x 128) [ inl g ↦ inl (omega arith) | inr g ↦ inr (omega arith) ]
 
-parity_one : (b x : ℕ) → parity_form b ≡ Some (One x) → parity_step false x ≡ Some (Emit b)
+parity_one : (b x : ℕ) → parity_form b ≡ Some (One x)
+    → parity_step false x ≡ Some (Emit b)
 parity_one b x e =
     elim (cases_lt b 128) [
       | inl g ↦ let k = seal b g in
@@ -53,7 +55,8 @@ parity_one b x e =
       | inr g ↦ grind (arith, nat_tests)
     ]
 
-parity_back : (b x : ℕ) → parity_step false x ≡ Some (Emit b) → parity_form b ≡ Some (One x)
+parity_back : (b x : ℕ) → parity_step false x ≡ Some (Emit b)
+    → parity_form b ≡ Some (One x)
 parity_back b x e =
     let h : x < 256 = grind (arith, nat_tests) in
     let k : x % 128 ≡ b = grind (arith, nat_tests) in
@@ -64,10 +67,12 @@ parity_back b x e =
       | inr g ↦ let y : x ≡ b + 128 = omega arith in high b x small y (rw y at even)
     ]
   where
-    low : (b x : ℕ) → b < 128 → x ≡ b → ones b % 2 ≡ 0 → parity_form b ≡ Some (One x)
+    low : (b x : ℕ) → b < 128 → x ≡ b → ones b % 2 ≡ 0
+        → parity_form b ≡ Some (One x)
     low b x h e k = grind (arith, nat_tests)
 
-    high : (b x : ℕ) → b < 128 → x ≡ b + 128 → ones (b + 128) % 2 ≡ 0 → parity_form b ≡ Some (One x)
+    high : (b x : ℕ) → b < 128 → x ≡ b + 128 → ones (b + 128) % 2 ≡ 0
+        → parity_form b ≡ Some (One x)
     high b x h e k =
         let s = seal b h in let odd : ones b % 2 ≡ 1 = omega arith in grind (arith, nat_tests)
 
@@ -88,7 +93,8 @@ parity_laws {m} l = recoded_laws parity_bytes m parity_agrees l
 
 -- Subrepertoire
 module _ (ds : List ℕ) {m : Meaning} (l : Laws m) where
-  pub kept_parts : (s : List ℕ) (c : ℕ) → Codes (sub ds m) s c → (on_list ds c ≡ true) × Codes m s c
+  pub kept_parts : (s : List ℕ) (c : ℕ) → Codes (sub ds m) s c
+      → (on_list ds c ≡ true) × Codes m s c
   kept_parts s c p = go (m.codings.character s) refl p
     where
       go : (o : Option ℕ) → m.codings.character s ≡ o → kept ds o ≡ Some c
@@ -125,7 +131,8 @@ module _ (ds : List ℕ) {m : Meaning} (l : Laws m) where
   }
     where
       go : (c : ℕ) (s : List ℕ) (b : Bool) → on_list ds c ≡ b
-          → cond b (m.codings.string c) None ≡ Some s → kept ds (m.codings.character s) ≡ Some c
+          → cond b (m.codings.string c) None ≡ Some s
+          → kept ds (m.codings.character s) ≡ Some c
       go c s true e p = rw (l.written c s p, e)
       go c s false e p = cc
 
@@ -159,7 +166,8 @@ module _ (cs : List Bool) {m : Meaning} (l : Laws m) where
         no_value (m.codings.string c) g.1,
       )
     where
-      refusing : (r : ReadAnswer) → Reads m (c ∷ []) r → is_err r ≡ true → Unreadable m (c ∷ [])
+      refusing : (r : ReadAnswer) → Reads m (c ∷ []) r → is_err r ≡ true
+          → Unreadable m (c ∷ [])
       refusing (Ok (Found d n)) h e = absurd (both_ways false refl e)
       refusing (Ok Open) h e = absurd (both_ways false refl e)
       refusing (Err q) h e = h.0

@@ -1,13 +1,16 @@
 -- A set under another form of bytes keeps the laws.
-use Rattle.std.specs.Prelude.{◌≡◌, ℕ, zero, suc, ◌<◌, ◌≤◌, Bool, true, false, cond, ◌&&◌, ◌⊎◌, List}
-use Rattle.std.specs.Prelude.{[], ◌∷◌, length, take, Some, None, Ok, Err, Option, nat_le, refl}
-use Rattle.std.proofs.Common.{sym, ap, ◌∙◌, inl, inr, arith, length-take, take_all, take-take, lit<}
+use Rattle.std.specs.Prelude.{◌≡◌, ℕ, zero, suc, ◌<◌, ◌≤◌, Bool, true, false}
+use Rattle.std.specs.Prelude.{cond, ◌&&◌, ◌⊎◌, List, [], ◌∷◌, length, take, Some}
+use Rattle.std.specs.Prelude.{None, Ok, Err, Option, nat_le, refl}
+use Rattle.std.proofs.Common.{sym, ap, ◌∙◌, inl, inr, arith, length-take, take_all, take-take}
+use Rattle.std.proofs.Common.{lit<}
 use Rattle.std.proofs.lemmas.Bool.{cases_lt, both_ways, leb-true, le-leb, and_parts, not-true}
 use Rattle.std.proofs.lemmas.Bool.{cond_both}
-use Rattle.std.specs.List.{AllByRecursion}
 use Rattle.charset.specs.declared.SetRefusal.{SetRefusal}
 use Rattle.charset.specs.declared.Reading.TheVariants.{Found, Open}
-use Rattle.charset.specs.Meaning.{Meaning, Codes, IsOpening, NoFront, Unreadable, Laws}
+use Rattle.charset.specs.Strings.{AreBytes}
+use Rattle.charset.specs.Meaning.{Meaning, Codes, IsOpening, NoFront, Unreadable}
+use Rattle.charset.specs.Meaning.{IsTwoBytes, Laws}
 use Rattle.charset.specs.Answers.{ReadAnswer, Reads, reading}
 use Rattle.layers.specs.declared.recoding.moves.Move.{Move}
 use Rattle.layers.specs.declared.recoding.moves.Move.TheVariants.{Emit, Hold}
@@ -20,11 +23,10 @@ use Rattle.layers.specs.Recoding.{scan_cause, recoded, Agrees}
 use Rattle.charset.proofs.FrontLemmas.{reading_reads, reading_is, reading_bad, answer_grows, alone}
 
 pub over_small : {m : Meaning} → Laws m → (t : List ℕ) (q : SetRefusal) → q.cause < 256
-    → q.depth < 256
-    → ((over (reading m t) q).cause < 256) × ((over (reading m t) q).depth < 256)
+    → q.depth < 256 → IsTwoBytes (over (reading m t) q)
 over_small {m} l t q h k = go (reading m t) (reading_reads l t)
   where
-    go : (r : ReadAnswer) → Reads m t r → ((over r q).cause < 256) × ((over r q).depth < 256)
+    go : (r : ReadAnswer) → Reads m t r → IsTwoBytes (over r q)
     go (Ok (Found c n)) e = (h, k)
     go (Ok Open) e = (h, k)
     go (Err x) e = rw e.1 ((l.cause_sized t e.0).0, omega arith)
@@ -39,7 +41,8 @@ module _ (r : Recoding) where
     where
       go : (v : Option Move) → ((q : Bool) → below r q (take n s) ≡ take
           (length (below r q (take n s))) (below r q s))
-          → put v (λ q. below r q (take n s)) ≡ take (length (put v (λ q. below r q (take n s))))
+          → put v (λ q. below r q (take n s))
+          ≡ take (length (put v (λ q. below r q (take n s))))
           (put v (λ q. below r q s))
       go (Some (Emit b)) h = ap {B = List ℕ} (λ t. b ∷ t) (h false)
       go (Some Hold) h = h true
@@ -89,10 +92,12 @@ module _ (r : Recoding) where
       → length (below r p (take n s)) < length (below r p s)
   below_strict s p zero e h = clean_some s p e h
   below_strict [] p (suc n) e h = omega arith
-  below_strict (x ∷ s) p (suc n) e h = go (r.step p x) (λ q k. below_strict s q n k (omega arith)) e
+  below_strict (x ∷ s) p (suc n) e h =
+      go (r.step p x) (λ q k. below_strict s q n k (omega arith)) e
     where
       go : (v : Option Move) → ((q : Bool) → ends r q s ≡ clean
-          → length (below r q (take n s)) < length (below r q s)) → stop v (λ q. ends r q s) ≡ clean
+          → length (below r q (take n s)) < length (below r q s))
+          → stop v (λ q. ends r q s) ≡ clean
           → length (put v (λ q. below r q (take n s))) < length (put v (λ q. below r q s))
       go (Some (Emit b)) f k = omega (arith, f false k)
       go (Some Hold) f k = f true k
@@ -125,7 +130,8 @@ module _ {r : Recoding} (a : Agrees r) where
   shifted_reads (b ∷ t) s e = go (r.form b) refl (shifted r t) (shifted_reads t) e
     where
       go : (f : Option WrittenByte) → r.form b ≡ f → (o : Option (List ℕ))
-          → ((u : List ℕ) → o ≡ Some u → (ends r false u ≡ clean) × (below r false u ≡ t))
+          → ((u : List ℕ) → o ≡ Some u
+          → (ends r false u ≡ clean) × (below r false u ≡ t))
           → before f o ≡ Some s
           → (ends r false s ≡ clean) × (below r false s ≡ b ∷ t)
       go f h None g e = cc
@@ -137,7 +143,8 @@ module _ {r : Recoding} (a : Agrees r) where
           rw (← e', st.0, st.1, g'.0, g'.1) (refl, refl)
       go None h (Some u) g e = cc
 
-  pub reads_shifted : (s : List ℕ) → ends r false s ≡ clean → shifted r (below r false s) ≡ Some s
+  pub reads_shifted : (s : List ℕ) → ends r false s ≡ clean
+      → shifted r (below r false s) ≡ Some s
   reads_shifted [] e = refl
   reads_shifted (x ∷ []) e = go (r.step false x) refl e
     where
@@ -146,7 +153,8 @@ module _ {r : Recoding} (a : Agrees r) where
       go (Some (Emit b)) h e = rw (a.step_one b x h)
       go (Some Hold) h e = cc
       go None h e = cc
-  reads_shifted (x ∷ y ∷ s) e = go (r.step false x) refl (reads_shifted (y ∷ s)) (reads_shifted s) e
+  reads_shifted (x ∷ y ∷ s) e =
+      go (r.step false x) refl (reads_shifted (y ∷ s)) (reads_shifted s) e
     where
       snd : (v : Option Move) → r.step true y ≡ v → r.step false x ≡ Some Hold
           → (ends r false s ≡ clean → shifted r (below r false s) ≡ Some s)
@@ -157,7 +165,8 @@ module _ {r : Recoding} (a : Agrees r) where
       snd None h k f e = cc
 
       go : (v : Option Move) → r.step false x ≡ v
-          → (ends r false (y ∷ s) ≡ clean → shifted r (below r false (y ∷ s)) ≡ Some (y ∷ s))
+          → (ends r false (y ∷ s) ≡ clean
+          → shifted r (below r false (y ∷ s)) ≡ Some (y ∷ s))
           → (ends r false s ≡ clean → shifted r (below r false s) ≡ Some s)
           → stop v (λ q. ends r q (y ∷ s)) ≡ clean
           → shifted r (put v (λ q. below r q (y ∷ s))) ≡ Some (x ∷ y ∷ s)
@@ -165,15 +174,14 @@ module _ {r : Recoding} (a : Agrees r) where
       go (Some Hold) h f g e = snd (r.step true y) refl h g e
       go None h f g e = cc
 
-  pub unbroken_bytes : (s : List ℕ) (p : Bool) → is_broken (ends r p s) ≡ false
-      → AllByRecursion (λ b. b < 256) s
+  pub unbroken_bytes : (s : List ℕ) (p : Bool) → is_broken (ends r p s) ≡ false → AreBytes s
   unbroken_bytes [] p e = tt
   unbroken_bytes (x ∷ s) p e = go p (r.step p x) refl (unbroken_bytes s) e
     where
       go : (p : Bool) (v : Option Move) → r.step p x ≡ v
-          → ((q : Bool) → is_broken (ends r q s) ≡ false → AllByRecursion (λ b. b < 256) s)
+          → ((q : Bool) → is_broken (ends r q s) ≡ false → AreBytes s)
           → is_broken (stop v (λ q. ends r q s)) ≡ false
-          → (x < 256) × AllByRecursion (λ b. b < 256) s
+          → (x < 256) × AreBytes s
       go p (Some (Emit b)) h f e = (a.first_byte p x b h, f false e)
       go false (Some Hold) h f e = (a.held_byte x h, f true e)
       go true (Some Hold) h f e = absurd (a.no_third x h)
@@ -197,7 +205,8 @@ module _ (r : Recoding) (m : Meaning) where
   codes_from s c h e p = rw (le-leb (length s) 4 h, e) p
 
   pub opens_parts : (s : List ℕ) → IsOpening (recoded r m) s
-      → (length s ≤ 3) × (is_broken (ends r false s) ≡ false) × IsOpening m (below r false s)
+      → (length s ≤ 3) × (is_broken (ends r false s) ≡ false)
+      × IsOpening m (below r false s)
   opens_parts s p =
       let h = and_parts _ _ p in
       let g = and_parts _ _ h.1 in
@@ -221,8 +230,8 @@ module _ (r : Recoding) (m : Meaning) where
         → Codes (recoded r m) s c
     written' c s p = go (m.codings.string c) refl p
       where
-        gone : (t : List ℕ) → m.codings.string c ≡ Some t → (o : Option (List ℕ)) → shifted r t ≡ o
-            → at_most_four o ≡ Some s → Codes (recoded r m) s c
+        gone : (t : List ℕ) → m.codings.string c ≡ Some t → (o : Option (List ℕ))
+            → shifted r t ≡ o → at_most_four o ≡ Some s → Codes (recoded r m) s c
         gone t k None h e = cc
         gone t k (Some u) h e = last (nat_le (length u) 4) refl e
           where
@@ -256,7 +265,8 @@ module _ (r : Recoding) (m : Meaning) where
         → NoFront m (below r false s)
     no_front s h f k c p = go k p (cases_lt k (length (below r false s)))
       where
-        at : (k : ℕ) → k < length (below r false s) → Codes m (take (suc k) (below r false s)) c → ⊥
+        at : (k : ℕ) → k < length (below r false s)
+            → Codes m (take (suc k) (below r false s)) c → ⊥
         at k g p =
             let q = below_front r s false k g in
             f q.0 c (codes_from (take q.0 s) c (rw (length-take q.0 s) (omega arith)) q.2
@@ -299,7 +309,8 @@ module _ (r : Recoding) (m : Meaning) where
               reading_is l (below r false s) (Err q) g,
             )
 
-        go : (e : End) → ends r false (take n s) ≡ e → scan_cause r m s ≡ scan_cause r m (take n s)
+        go : (e : End) → ends r false (take n s) ≡ e
+            → scan_cause r m s ≡ scan_cause r m (take n s)
         go clean k = better (rw k)
         go pending k = better (rw k)
         go broken k = let b = broken_take r s false n k in rw (b.0, b.1, k)

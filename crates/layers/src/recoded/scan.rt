@@ -1,10 +1,11 @@
+//! What the front of a string stands for below.
 use charset::Front;
 
-// The bytes below that the front of a string stands for.
+/// What the first four bytes of a string stand for below.
 #[derive(Clone, Copy)]
 pub struct Scan {
+    /// The bytes below, up to a byte that cannot stand where it does.
     pub below: Front,
-    // A byte that cannot stand where it does came before the end. A flag, since what stands below
-    // is read all the same.
+    /// Whether there is such a byte.
     pub broken: bool,
 }

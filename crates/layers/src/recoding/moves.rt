@@ -1,13 +1,15 @@
-// What reading one more byte does, where a byte below is written as one or two bytes.
+//! The steps of reading and writing, where a byte below is written as one or two bytes.
+
+/// What reading one more byte does.
 #[derive(Clone, Copy, PartialEq, Eq, Debug)]
 pub enum Move {
-    // A byte below is complete.
+    /// This byte below is complete.
     Emit(u8),
-    // It takes one more byte.
+    /// It takes one more byte.
     Hold,
 }
 
-// How a byte below is written.
+/// How a byte below is written: as one byte, or as two in this order.
 #[derive(Clone, Copy, PartialEq, Eq, Debug)]
 pub enum WrittenByte {
     One(u8),

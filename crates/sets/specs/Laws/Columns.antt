@@ -1,10 +1,11 @@
 -- A code table of single bytes is one to one where its test passes.
-use Rattle.std.specs.Prelude.{◌≡◌, ℕ, ◌<◌, ◌≤◌, Bool, true, false, cond, ◌&&◌, List, Some, None}
-use Rattle.std.specs.Prelude.{Option, nat_le, nat_lt, refl}
+use Rattle.std.specs.Prelude.{◌≡◌, ℕ, ◌<◌, ◌≤◌, Bool, true, false, cond, ◌&&◌}
+use Rattle.std.specs.Prelude.{List, Some, None, Option, nat_le, nat_lt, refl}
 use Rattle.std.proofs.Common.{ap, arith}
 use Rattle.std.proofs.lemmas.Bool.{and_parts, eqb-true, leb-true, ltb-true}
 use Rattle.std.proofs.lemmas.Bool.Decides.{nat_tests}
 use Rattle.std.proofs.lemmas.Option.{same_Some}
+use Rattle.charset.specs.Meaning.{IsCodePoint}
 use Rattle.sets.specs.Search.{every_from}
 use Rattle.sets.specs.Columns.{ascii, upper_at, character_at, is_character, upper_of, byte_of}
 use Rattle.sets.specs.Columns.{placed_once, one_to_one}
@@ -22,8 +23,8 @@ pub upper_byte : (columns : List (List ℕ)) (b c : ℕ) → upper_at columns b 
     → (0xa0 ≤ b) × (b < 256)
 upper_byte columns b c e = go (nat_le 0xa0 b && nat_le b 0xff) _ refl e
   where
-    go : (t : Bool) (o : Option ℕ) → (nat_le 0xa0 b && nat_le b 0xff) ≡ t → cond t o None ≡ Some c
-        → (0xa0 ≤ b) × (b < 256)
+    go : (t : Bool) (o : Option ℕ) → (nat_le 0xa0 b && nat_le b 0xff) ≡ t
+        → cond t o None ≡ Some c → (0xa0 ≤ b) × (b < 256)
     go true o h f = (grind (arith, nat_tests), grind (arith, nat_tests))
     go false o h f = cc
 
@@ -31,7 +32,7 @@ upper_byte columns b c e = go (nat_le 0xa0 b && nat_le b 0xff) _ refl e
 pub record Placed (columns : List (List ℕ)) (b c : ℕ) : Type 0 where
   pub byte : b < 256
   pub back : byte_of columns c ≡ Some b
-  pub small : c ≤ 0x10ffff
+  pub small : IsCodePoint c
 
 pub placed : (columns : List (List ℕ)) → one_to_one columns ≡ true → (b c : ℕ)
     → character_at columns b ≡ Some c → Placed columns b c
@@ -85,7 +86,8 @@ pub low_at : (columns : List (List ℕ)) → all_low columns ≡ true → (b c :
     → character_at columns b ≡ Some c → c < 0xd800
 low_at columns ok b c e = go (ascii b) refl e
   where
-    go : (t : Bool) → ascii b ≡ t → cond t (Some b) (upper_at columns b) ≡ Some c → c < 0xd800
+    go : (t : Bool) → ascii b ≡ t → cond t (Some b) (upper_at columns b) ≡ Some c
+        → c < 0xd800
     go true h f = let same : b ≡ c = cc in grind (arith, nat_tests)
     go false h f =
         let range = upper_byte columns b c f in

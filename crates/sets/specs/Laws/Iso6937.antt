@@ -1,12 +1,12 @@
 -- ISO/IEC 6937 keeps the laws of a character set.
-use Rattle.std.specs.Prelude.{◌≡◌, ℕ, zero, suc, ◌<◌, ◌≤◌, true, List, [], ◌∷◌, length, take}
-use Rattle.std.specs.Prelude.{is_some, Some, None, Option, ◌≢◌, refl}
+use Rattle.std.specs.Prelude.{◌≡◌, ℕ, zero, suc, ◌<◌, ◌≤◌, true, List, []}
+use Rattle.std.specs.Prelude.{◌∷◌, length, take, is_some, Some, None, Option, ◌≢◌, refl}
 use Rattle.std.proofs.Common.{sym, ◌∙◌, arith}
 use Rattle.std.specs.Option.{option_map}
-use Rattle.std.specs.List.{AllByRecursion}
 use Rattle.std.proofs.lemmas.Bool.{false≢true, cond_both}
 use Rattle.std.proofs.lemmas.Option.{none-some, same_Some}
-use Rattle.charset.specs.Meaning.{Unreadable, Laws}
+use Rattle.charset.specs.Strings.{AreBytes, OneToFour}
+use Rattle.charset.specs.Meaning.{Unreadable, IsTwoBytes, Laws}
 use Rattle.charset.proofs.FrontLemmas.{alone, no_front_by}
 use Rattle.sets.specs.declared.cause.Cause.TheVariants.{NotInUse, NoPair}
 use Rattle.sets.specs.Causes.{refusal}
@@ -18,17 +18,18 @@ use Rattle.sets.specs.Iso6937.{iso6937_string, iso6937_openings, iso6937_causes,
 use Rattle.sets.specs.Laws.Columns.{standing}
 use Rattle.sets.specs.Laws.Iso6937Table.{single_at, accented_at, accented_of, mark_alone}
 
-written : (c : ℕ) (s : List ℕ) → iso6937_string c ≡ Some s → iso6937_character s ≡ Some c
+written : (c : ℕ) (s : List ℕ) → iso6937_string c ≡ Some s
+    → iso6937_character s ≡ Some c
 written c s e = alone_or_pair (byte_of supplementary c) refl e
   where
-    in_pairs : (o : Option (ℕ × ℕ)) → pair_of c ≡ o → option_map (λ p. p.0 ∷ p.1 ∷ []) o ≡ Some s
-        → iso6937_character s ≡ Some c
+    in_pairs : (o : Option (ℕ × ℕ)) → pair_of c ≡ o
+        → option_map (λ p. p.0 ∷ p.1 ∷ []) o ≡ Some s → iso6937_character s ≡ Some c
     in_pairs None h f = cc
     in_pairs (Some p) h f = rw (← same_Some _ _ f) (accented_of p.0 p.1 c h).stands
 
     alone_or_pair : (o : Option ℕ) → byte_of supplementary c ≡ o
-        → or_else (option_map (λ b. b ∷ []) o) (option_map (λ p. p.0 ∷ p.1 ∷ []) (pair_of c)) ≡ Some
-        s → iso6937_character s ≡ Some c
+        → or_else (option_map (λ b. b ∷ []) o) (option_map (λ p. p.0 ∷ p.1 ∷ []) (pair_of c))
+        ≡ Some s → iso6937_character s ≡ Some c
     alone_or_pair None h f = in_pairs (pair_of c) refl f
     alone_or_pair (Some b) h f = rw (← same_Some _ _ f) (standing supplementary b c h)
 
@@ -38,13 +39,13 @@ read (b ∷ []) c e = (single_at b c e).coded
 read (m ∷ l ∷ []) c e = (accented_at m l c e).coded
 read (a ∷ b ∷ d ∷ s) c e = cc
 
-sized : (s : List ℕ) (c : ℕ) → iso6937_character s ≡ Some c → (0 < length s) × (length s ≤ 4)
+sized : (s : List ℕ) (c : ℕ) → iso6937_character s ≡ Some c → OneToFour s
 sized [] c e = cc
 sized (b ∷ []) c e = (omega arith, omega arith)
 sized (m ∷ l ∷ []) c e = (omega arith, omega arith)
 sized (a ∷ b ∷ d ∷ s) c e = cc
 
-bytes : (s : List ℕ) (c : ℕ) → iso6937_character s ≡ Some c → AllByRecursion (λ b. b < 256) s
+bytes : (s : List ℕ) (c : ℕ) → iso6937_character s ≡ Some c → AreBytes s
 bytes [] c e = cc
 bytes (b ∷ []) c e = ((single_at b c e).byte, tt)
 bytes (m ∷ l ∷ []) c e = let h = accented_at m l c e in (h.mark_byte, (h.letter_byte, tt))
@@ -63,7 +64,8 @@ opening_sized (b ∷ []) e = omega arith
 opening_sized (a ∷ b ∷ s) e = cc
 
 -- an opening of one byte is a diacritic
-pub opening_mark : (b : ℕ) → is_some (letters_of b) ≡ true → (b < 256) × (single b ≡ None)
+pub opening_mark : (b : ℕ) → is_some (letters_of b) ≡ true
+    → (b < 256) × (single b ≡ None)
 opening_mark b e = go (letters_of b) refl e
   where
     go : (o : Option (List (ℕ × ℕ))) → letters_of b ≡ o → is_some o ≡ true
@@ -71,7 +73,7 @@ opening_mark b e = go (letters_of b) refl e
     go None h f = cc
     go (Some ps) h f = mark_alone b ps h
 
-opening_bytes : (s : List ℕ) → iso6937_openings s ≡ true → AllByRecursion (λ b. b < 256) s
+opening_bytes : (s : List ℕ) → iso6937_openings s ≡ true → AreBytes s
 opening_bytes [] e = tt
 opening_bytes (b ∷ []) e = ((opening_mark b e).0, tt)
 opening_bytes (a ∷ b ∷ s) e = cc
@@ -102,17 +104,17 @@ opening_begins (b ∷ []) (suc zero) e = e
 opening_begins (b ∷ []) (suc (suc n)) e = e
 opening_begins (a ∷ b ∷ s) n e = cc
 
-no_coding : (s : List ℕ) (c : ℕ) → iso6937_openings s ≡ true → iso6937_character s ≢ Some c
+no_coding : (s : List ℕ) (c : ℕ) → iso6937_openings s ≡ true
+    → iso6937_character s ≢ Some c
 no_coding [] c o e = cc
 no_coding (b ∷ []) c o e = none-some _ (sym (opening_mark b o).1 ∙ e)
 no_coding (a ∷ b ∷ s) c o e = cc
 
-cause_sized : (s : List ℕ) → ((iso6937_causes s).cause < 256) × ((iso6937_causes s).depth < 256)
+cause_sized : (s : List ℕ) → IsTwoBytes (iso6937_causes s)
 cause_sized [] = (omega arith, omega arith)
 cause_sized (b ∷ s) =
     cond_both (is_some (letters_of b)) (refusal NoPair) (refusal NotInUse)
-    (λ q. (q.cause < 256) × (q.depth < 256)) (λ e. (omega arith, omega arith))
-    (λ e. (omega arith, omega arith))
+    IsTwoBytes (λ e. (omega arith, omega arith)) (λ e. (omega arith, omega arith))
 
 cause_stays : (s : List ℕ) (n : ℕ) → Unreadable iso6937 (take n s)
     → iso6937_causes s ≡ iso6937_causes (take n s)

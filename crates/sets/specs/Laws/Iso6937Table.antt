@@ -1,6 +1,6 @@
 -- Table 4 is one to one, by tests over the whole of it that antt computes.
-use Rattle.std.specs.Prelude.{◌≡◌, ℕ, ◌<◌, Bool, true, ◌&&◌, List, [], ◌∷◌, Some, None, Option}
-use Rattle.std.specs.Prelude.{◌==◌, nat_lt, refl}
+use Rattle.std.specs.Prelude.{◌≡◌, ℕ, ◌<◌, Bool, true, ◌&&◌, List, [], ◌∷◌}
+use Rattle.std.specs.Prelude.{Some, None, Option, ◌==◌, nat_lt, refl}
 use Rattle.std.proofs.Common.{ap, ◌∙◌}
 use Rattle.std.proofs.Math.Path.{subst₃}
 use Rattle.std.specs.Option.{option_map, is_none}
@@ -75,8 +75,8 @@ tested d t =
     let b = and_parts (nat_lt d.0 256) (is_none (single d.0)) a.0 in
     record { mark_byte = ltb-true d.0 256 b.0; alone = no_value (single d.0) b.1; letters = a.1 }
 
-accented_entry : (d : ℕ × List (ℕ × ℕ)) (p : ℕ × ℕ) → Tested d → letter_test d.0 p ≡ true
-    → Accented d.0 p.0 p.1
+accented_entry : (d : ℕ × List (ℕ × ℕ)) (p : ℕ × ℕ) → Tested d
+    → letter_test d.0 p ≡ true → Accented d.0 p.0 p.1
 accented_entry d p t u =
     let e = and_parts (is_string (d.0 ∷ p.0 ∷ []) (iso6937_string p.1) && is_character p.1
     (pair d.0 p.0)) (nat_lt p.0 256 && nat_lt p.1 0xd800) u in
@@ -102,7 +102,8 @@ marked mark ps e =
 
 pub mark_alone : (mark : ℕ) (ps : List (ℕ × ℕ)) → letters_of mark ≡ Some ps
     → (mark < 256) × (single mark ≡ None)
-mark_alone mark ps e = let h = marked mark ps e in (rw (← h.2) h.1.mark_byte, rw (← h.2) h.1.alone)
+mark_alone mark ps e =
+    let h = marked mark ps e in (rw (← h.2) h.1.mark_byte, rw (← h.2) h.1.alone)
 
 pub accented_at : (mark letter c : ℕ) → pair mark letter ≡ Some c → Accented mark letter c
 accented_at mark letter c e = go (letters_of mark) refl e
@@ -118,7 +119,8 @@ accented_at mark letter c e = go (letters_of mark) refl e
         let at_letter = when_some p.0 letter p.1 c k.2 in
         subst₃ Accented h.2 at_letter.0 at_letter.1 (accented_entry d p h.1 k.1)
 
-pub accented_of : (mark letter c : ℕ) → pair_of c ≡ Some (mark, letter) → Accented mark letter c
+pub accented_of : (mark letter c : ℕ) → pair_of c ≡ Some (mark, letter)
+    → Accented mark letter c
 accented_of mark letter c e =
     let h = found_passes diacritic_test
     (λ d. option_map {U = ℕ × ℕ} (λ x. (d.0, x)) (letter_of c d.1)) diacritics (mark, letter)
@@ -126,7 +128,8 @@ accented_of mark letter c e =
     go h.0 (tested h.0 h.1) (letter_of c h.0.1) refl h.2
   where
     go : (d : ℕ × List (ℕ × ℕ)) → Tested d → (o : Option ℕ) → letter_of c d.1 ≡ o
-        → option_map {U = ℕ × ℕ} (λ x. (d.0, x)) o ≡ Some (mark, letter) → Accented mark letter c
+        → option_map {U = ℕ × ℕ} (λ x. (d.0, x)) o ≡ Some (mark, letter)
+        → Accented mark letter c
     go d t None f g = cc
     go d t (Some x) f g =
         let k = found_passes (letter_test d.0) (by_character c) d.1 x t.letters f in

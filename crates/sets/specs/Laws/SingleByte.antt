@@ -1,11 +1,11 @@
 -- A set of single bytes keeps the laws of a character set.
-use Rattle.std.specs.Prelude.{◌≡◌, ℕ, zero, suc, ◌<◌, ◌≤◌, true, List, [], ◌∷◌, length, take, Some}
-use Rattle.std.specs.Prelude.{None, Option, refl}
+use Rattle.std.specs.Prelude.{◌≡◌, ℕ, zero, suc, ◌<◌, ◌≤◌, true, List, []}
+use Rattle.std.specs.Prelude.{◌∷◌, length, take, Some, None, Option, refl}
 use Rattle.std.proofs.Common.{sym, ap, ◌∙◌, arith}
 use Rattle.std.specs.Option.{option_map}
-use Rattle.std.specs.List.{AllByRecursion}
 use Rattle.std.proofs.lemmas.Option.{none-some, same_Some}
-use Rattle.charset.specs.Meaning.{NoFront, Laws}
+use Rattle.charset.specs.Strings.{AreBytes, OneToFour}
+use Rattle.charset.specs.Meaning.{NoFront, IsCodePoint, Laws}
 use Rattle.charset.proofs.FrontLemmas.{alone}
 use Rattle.sets.specs.Columns.{byte_of, one_to_one}
 use Rattle.sets.specs.SingleByte.{single_byte_character, single_byte_openings, single_byte}
@@ -28,18 +28,19 @@ module _ (columns : List (List ℕ)) (ok : one_to_one columns ≡ true) where
   read (a ∷ b ∷ s) c e = cc
 
   sized : (s : List ℕ) (c : ℕ) → single_byte_character columns s ≡ Some c
-      → (0 < length s) × (length s ≤ 4)
+      → OneToFour s
   sized [] c e = cc
   sized (b ∷ []) c e = (omega arith, omega arith)
   sized (a ∷ b ∷ s) c e = cc
 
   bytes : (s : List ℕ) (c : ℕ) → single_byte_character columns s ≡ Some c
-      → AllByRecursion (λ b. b < 256) s
+      → AreBytes s
   bytes [] c e = cc
   bytes (b ∷ []) c e = ((placed columns ok b c e).byte, tt)
   bytes (a ∷ b ∷ s) c e = cc
 
-  characters : (s : List ℕ) (c : ℕ) → single_byte_character columns s ≡ Some c → c ≤ 0x10ffff
+  characters : (s : List ℕ) (c : ℕ) → single_byte_character columns s ≡ Some c
+      → IsCodePoint c
   characters [] c e = cc
   characters (b ∷ []) c e = (placed columns ok b c e).small
   characters (a ∷ b ∷ s) c e = cc
@@ -48,8 +49,8 @@ module _ (columns : List (List ℕ)) (ok : one_to_one columns ≡ true) where
   only_empty [] o = refl
   only_empty (b ∷ s) o = cc
 
-  coding_begins : (s : List ℕ) (c n : ℕ) → single_byte_character columns s ≡ Some c → n < length s
-      → single_byte_openings (take n s) ≡ true
+  coding_begins : (s : List ℕ) (c n : ℕ) → single_byte_character columns s ≡ Some c
+      → n < length s → single_byte_openings (take n s) ≡ true
   coding_begins s c zero e h = refl
   coding_begins [] c (suc n) e h = cc
   coding_begins (b ∷ []) c (suc n) e h = absurd (omega arith)
@@ -61,7 +62,8 @@ module _ (columns : List (List ℕ)) (ok : one_to_one columns ≡ true) where
   opening_begins [] (suc n) o = refl
   opening_begins (b ∷ s) (suc n) o = cc
 
-  opening_bare : (s : List ℕ) → single_byte_openings s ≡ true → NoFront (single_byte columns) s
+  opening_bare : (s : List ℕ) → single_byte_openings s ≡ true
+      → NoFront (single_byte columns) s
   opening_bare s o n c e =
       none-some _ (ap (single_byte_character columns)
       (sym (only_empty (take n s) (opening_begins s n o))) ∙ e)

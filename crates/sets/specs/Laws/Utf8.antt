@@ -1,12 +1,13 @@
 -- UTF-8 keeps the laws of a character set.
-use Rattle.std.specs.Prelude.{◌≡◌, ℕ, zero, suc, ◌+◌, ◌-◌, ◌*◌, ◌/◌, ◌<◌, ◌≤◌, true, false, List}
-use Rattle.std.specs.Prelude.{[], ◌∷◌, length, take, Some, None, ◌≢◌, nat_lt, refl}
+use Rattle.std.specs.Prelude.{◌≡◌, ℕ, zero, suc, ◌+◌, ◌-◌, ◌*◌, ◌/◌}
+use Rattle.std.specs.Prelude.{◌<◌, ◌≤◌, true, false, List, [], ◌∷◌, length, take}
+use Rattle.std.specs.Prelude.{Some, None, ◌≢◌, nat_lt, refl}
 use Rattle.std.proofs.Common.{sym, ◌∙◌, inl, inr, arith}
-use Rattle.std.specs.List.{AllByRecursion}
 use Rattle.std.proofs.lemmas.Bool.{cond-true, lt-ltb, le-ltb, cases_lt, cases_Bool}
 use Rattle.std.proofs.lemmas.Bool.Decides.{nat_tests}
 use Rattle.std.proofs.lemmas.Option.{none-some, same_Some, cond_some}
-use Rattle.charset.specs.Meaning.{Laws}
+use Rattle.charset.specs.Strings.{AreBytes, OneToFour}
+use Rattle.charset.specs.Meaning.{IsCodePoint, Laws}
 use Rattle.charset.proofs.FrontLemmas.{alone, no_front_by}
 use Rattle.sets.specs.Utf8.{least_second, two_octets, three_octets, four_octets, surrogate}
 use Rattle.sets.specs.Utf8.{low_bits, utf8_character, utf8_string, utf8_openings, utf8}
@@ -30,11 +31,11 @@ written_three c h k s =
     rw (a, v) refl
 
 written_four : (c : ℕ) → 0x10000 ≤ c → c < 0x110000
-    → utf8_character ((0xf0 + c / 262144) ∷ low_bits (c / 4096) ∷ low_bits (c / 64) ∷ low_bits c
-    ∷ []) ≡ Some c
+    → utf8_character ((0xf0 + c / 262144) ∷ low_bits (c / 4096) ∷ low_bits (c / 64)
+    ∷ low_bits c ∷ []) ≡ Some c
 written_four c h k =
-    let a : four_octets (0xf0 + c / 262144) (low_bits (c / 4096)) (low_bits (c / 64)) (low_bits c) ≡
-    true = grind (arith, nat_tests) in
+    let a : four_octets (0xf0 + c / 262144) (low_bits (c / 4096)) (low_bits (c / 64))
+    (low_bits c) ≡ true = grind (arith, nat_tests) in
     let x : c / 64 / 64 ≡ c / 4096 = omega arith in
     let y : c / 4096 / 64 ≡ c / 262144 = omega arith in
     let v : (0xf0 + c / 262144 - 0xf0) * 262144 + (low_bits (c / 4096) - 0x80) * 4096 +
@@ -121,12 +122,13 @@ read_two : (a b : ℕ) → two_octets a b ≡ true
 read_two a b t = grind (arith, nat_tests)
 
 read_three : (a b c : ℕ) → three_octets a b c ≡ true
-    → utf8_string ((a - 0xe0) * 4096 + (b - 0x80) * 64 + (c - 0x80)) ≡ Some (a ∷ b ∷ c ∷ [])
+    → utf8_string ((a - 0xe0) * 4096 + (b - 0x80) * 64 + (c - 0x80))
+    ≡ Some (a ∷ b ∷ c ∷ [])
 read_three a b c t = grind (arith, nat_tests)
 
 read_four : (a b c d : ℕ) → four_octets a b c d ≡ true
-    → utf8_string ((a - 0xf0) * 262144 + (b - 0x80) * 4096 + (c - 0x80) * 64 + (d - 0x80)) ≡ Some
-    (a ∷ b ∷ c ∷ d ∷ [])
+    → utf8_string ((a - 0xf0) * 262144 + (b - 0x80) * 4096 + (c - 0x80) * 64 + (d - 0x80))
+    ≡ Some (a ∷ b ∷ c ∷ d ∷ [])
 read_four a b c d t = grind (arith, nat_tests)
 
 read : (s : List ℕ) (c : ℕ) → utf8_character s ≡ Some c → utf8_string c ≡ Some s
@@ -134,10 +136,11 @@ read [] n e = cc
 read (a ∷ []) n e = let h = cond_some _ _ n e in rw (← h.1) (read_one a h.0)
 read (a ∷ b ∷ []) n e = let h = cond_some _ _ n e in rw (← h.1) (read_two a b h.0)
 read (a ∷ b ∷ c ∷ []) n e = let h = cond_some _ _ n e in rw (← h.1) (read_three a b c h.0)
-read (a ∷ b ∷ c ∷ d ∷ []) n e = let h = cond_some _ _ n e in rw (← h.1) (read_four a b c d h.0)
+read (a ∷ b ∷ c ∷ d ∷ []) n e =
+    let h = cond_some _ _ n e in rw (← h.1) (read_four a b c d h.0)
 read (a ∷ b ∷ c ∷ d ∷ x ∷ s) n e = cc
 
-sized : (s : List ℕ) (c : ℕ) → utf8_character s ≡ Some c → (0 < length s) × (length s ≤ 4)
+sized : (s : List ℕ) (c : ℕ) → utf8_character s ≡ Some c → OneToFour s
 sized [] n e = cc
 sized (a ∷ []) n e = (omega arith, omega arith)
 sized (a ∷ b ∷ []) n e = (omega arith, omega arith)
@@ -145,7 +148,7 @@ sized (a ∷ b ∷ c ∷ []) n e = (omega arith, omega arith)
 sized (a ∷ b ∷ c ∷ d ∷ []) n e = (omega arith, omega arith)
 sized (a ∷ b ∷ c ∷ d ∷ x ∷ s) n e = cc
 
-bytes : (s : List ℕ) (c : ℕ) → utf8_character s ≡ Some c → AllByRecursion (λ b. b < 256) s
+bytes : (s : List ℕ) (c : ℕ) → utf8_character s ≡ Some c → AreBytes s
 bytes [] n e = cc
 bytes (a ∷ []) n e = let h = (cond_some _ _ n e).0 in (grind (arith, nat_tests), tt)
 bytes (a ∷ b ∷ []) n e =
@@ -162,7 +165,7 @@ bytes (a ∷ b ∷ c ∷ d ∷ []) n e =
     )
 bytes (a ∷ b ∷ c ∷ d ∷ x ∷ s) n e = cc
 
-characters : (s : List ℕ) (c : ℕ) → utf8_character s ≡ Some c → c ≤ 0x10ffff
+characters : (s : List ℕ) (c : ℕ) → utf8_character s ≡ Some c → IsCodePoint c
 characters s c e = elim (cases_lt c 0x110000) [
   | inl h ↦ omega arith
   | inr h ↦ absurd (none-some _ (sym (string_past c h) ∙ read s c e))
@@ -175,7 +178,7 @@ opening_sized (a ∷ b ∷ []) o = omega arith
 opening_sized (a ∷ b ∷ c ∷ []) o = omega arith
 opening_sized (a ∷ b ∷ c ∷ d ∷ s) o = cc
 
-opening_bytes : (s : List ℕ) → utf8_openings s ≡ true → AllByRecursion (λ b. b < 256) s
+opening_bytes : (s : List ℕ) → utf8_openings s ≡ true → AreBytes s
 opening_bytes [] o = tt
 opening_bytes (a ∷ []) o = (grind (arith, nat_tests), tt)
 opening_bytes (a ∷ b ∷ []) o = (grind (arith, nat_tests), (grind (arith, nat_tests), tt))
@@ -205,7 +208,8 @@ coding_begins (a ∷ b ∷ c ∷ d ∷ []) v (suc (suc (suc zero))) e k =
 coding_begins (a ∷ b ∷ c ∷ d ∷ []) v (suc (suc (suc (suc n)))) e k = absurd (omega arith)
 coding_begins (a ∷ b ∷ c ∷ d ∷ x ∷ s) v (suc n) e k = cc
 
-opening_begins : (s : List ℕ) (n : ℕ) → utf8_openings s ≡ true → utf8_openings (take n s) ≡ true
+opening_begins : (s : List ℕ) (n : ℕ) → utf8_openings s ≡ true
+    → utf8_openings (take n s) ≡ true
 opening_begins s zero o = refl
 opening_begins [] (suc n) o = refl
 opening_begins (a ∷ []) (suc zero) o = o
@@ -267,7 +271,12 @@ openings_begin_codings (a ∷ []) o = elim (cases_lt a 0xe0) [
 ]
 openings_begin_codings (a ∷ b ∷ []) o = elim (cases_lt a 0xf0) [
   | inl k ↦ (0x80 ∷ [], _, omega arith, cond-true _ (Some _) None (grind (arith, nat_tests)))
-  | inr k ↦ (0x80 ∷ 0x80 ∷ [], _, omega arith, cond-true _ (Some _) None (grind (arith, nat_tests)))
+  | inr k ↦ (
+    0x80 ∷ 0x80 ∷ [],
+    _,
+    omega arith,
+    cond-true _ (Some _) None (grind (arith, nat_tests)),
+  )
 ]
 openings_begin_codings (a ∷ b ∷ c ∷ []) o =
     (0x80 ∷ [], _, omega arith, cond-true _ (Some _) None (grind (arith, nat_tests)))

@@ -1,5 +1,5 @@
-// ISO/IEC 6937:1994, Table 4: what the supplementary set codes in one byte, and the letters of each
-// diacritic.
+//! ISO/IEC 6937:1994, Table 4: what the supplementary set codes in one byte, and the letters of
+//! each diacritic.
 ghost use Rattle.std.specs.Prelude.{◌≡◌, ℕ, is_some};
 ghost use Rattle.std.specs.Option.{option_map};
 ghost use Rattle.sets.specs.Columns.{byte_of};
@@ -28,8 +28,7 @@ const SUPPLEMENTARY: CodeTable = CodeTable { columns: [
     [0x0138, 0x00E6, 0x0111, 0x00F0, 0x0127, 0x0131, 0x0133, 0x0140, 0x0142, 0x00F8, 0x0153, 0x00DF, 0x00FE, 0x0167, 0x014B, 0x00AD],
 ] };
 
-// The small letters first, since they are met most often. By reference: a constant array would be
-// built anew for each search.
+// The small letters first, since they are met most often.
 #[rattlefmt::skip]
 const DIACRITICS: &[Diacritic; 13] = &[
     // grave
@@ -106,21 +105,22 @@ const DIACRITICS: &[Diacritic; 13] = &[
     ] },
 ];
 
-// The character that a byte codes alone.
+/// The code point that a byte codes alone; `None` if it codes none.
 pub fn single(byte: u8) -> Option<u32>
     ensures { result ≡ single byte }
 {
     SUPPLEMENTARY.character_at(byte)
 }
 
-// The byte that codes a character alone.
+/// The byte that codes a code point alone; `None` if none does.
 pub fn single_byte(character: u32) -> Option<u8>
     ensures { result ≡ byte_of supplementary character }
 {
     SUPPLEMENTARY.byte_of(character)
 }
 
-// The letters that a diacritic may stand before, in the order of this table.
+/// The letters that a diacritic may stand before, with the code point of each pair; `None` where
+/// the byte is no diacritic.
 pub fn letters_of(mark: u8) -> Option<&'static [(u8, u32)]>
     ensures diacritics { is_some result ≡ is_some (letters_of mark) }
     ensures pairs { (letter : ℕ) →
@@ -129,8 +129,7 @@ pub fn letters_of(mark: u8) -> Option<&'static [(u8, u32)]>
     DIACRITICS.iter().find_map(|diacritic| (diacritic.mark == mark).then_some(diacritic.letters))
 }
 
-// The character of a letter under a diacritic. From the front, as all searches here: by halves, the
-// order would be one more fact to keep.
+/// The code point of a letter under the diacritic with these letters; `None` if they make no pair.
 pub fn accented(letters: &[(u8, u32)], letter: u8) -> Option<u32>
     ensures { result ≡ accented letter letters.now }
 {
@@ -139,8 +138,7 @@ pub fn accented(letters: &[(u8, u32)], letter: u8) -> Option<u32>
         .find_map(|pair| (pair.0 == letter).then_some(pair.1))
 }
 
-// The letter of a character under a diacritic. A chain beside `accented`: one function for both
-// would take each half of the pair as a closure.
+// The letter of a code point under the diacritic with these letters.
 fn letter_of(letters: &[(u8, u32)], character: u32) -> Option<u8>
     ensures { result ≡ letter_of character letters.now }
 {
@@ -149,7 +147,7 @@ fn letter_of(letters: &[(u8, u32)], character: u32) -> Option<u8>
         .find_map(|pair| (pair.1 == character).then_some(pair.0))
 }
 
-// The diacritic and the letter that code a character.
+/// The diacritic and the letter that code a code point; `None` if no pair does.
 pub fn pair_of(character: u32) -> Option<(u8, u8)>
     ensures { result ≡ pair_of character }
 {
