@@ -6,7 +6,7 @@ ghost use Rattle.transcript.specs.Uses.{Use, start, offer, close, status};
 use crate::answers::{Answer, Done, Refusal, State, Status};
 use crate::progress::Progress;
 use charset::CharacterSet;
-use conversion::Converter;
+use conversion::{Converter, Run};
 
 // A transcript from a source set into a target set.
 #[derive(Drop)]
@@ -48,8 +48,11 @@ impl<S: CharacterSet, T: CharacterSet> Transcript<S, T> {
         ensures { OffersWhenOpen self.old sector.now output.old result output.new self.new }
     {
         self.progress.within_limits(sector, output)?;
-        let run = self.converter.convert(self.progress.held, sector, output);
-        self.progress.settle(run, sector)
+        let mut run = Run::default();
+        let end = self
+            .converter
+            .convert(self.progress.held, sector, output, &mut run);
+        self.progress.settle(run, end, sector)
     }
 
     // One call, by the state of the transcript: one match shows for each state what each call does.
