@@ -1,5 +1,5 @@
-// How far a transcript has come since it was started: its state, what it has counted, and the bytes
-// it holds.
+//! How far a transcript has come since it was started: its state, what it has counted, and the
+//! bytes it holds.
 ghost use Rattle.std.specs.Prelude.{◌+◌, ◌*◌, ◌≤◌, length};
 ghost use Rattle.transcript.specs.declared.TheConstants.{LONGEST_SOURCE};
 
@@ -8,6 +8,7 @@ use crate::{LONGEST_OUTPUT, LONGEST_SECTOR, LONGEST_SOURCE};
 use charset::Front;
 use conversion::{Fault, Pause, Run};
 
+/// How far a transcript has come, without its sets.
 #[derive(Clone, Copy)]
 pub struct Progress {
     pub(crate) state: State,
@@ -28,7 +29,7 @@ impl Progress {
     ghost use Rattle.transcript.specs.Calls.{fresh, status_of, ClosedOn};
     ghost use Rattle.transcript.specs.Snapshots.{snapshot, kept_after, Limits, Possible, Settles};
 
-    // That of a transcript that is started.
+    /// That of a transcript that is started.
     pub fn fresh() -> Progress
         ensures { snapshot result ≡ fresh }
     {
@@ -41,6 +42,7 @@ impl Progress {
         }
     }
 
+    /// What it tells of itself.
     pub fn status(&self) -> Status
         ensures { result ≡ status_of (snapshot self.now) }
     {

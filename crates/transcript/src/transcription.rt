@@ -1,4 +1,4 @@
-// A whole text from one character set into another, by the use of a transcript.
+//! A whole text from one character set into another, by the use of a transcript.
 ghost use Rattle.std.specs.Prelude.{◌≡◌, ◌≤◌, [], length, Some};
 ghost use Rattle.charset.specs.Sets.{set_of};
 ghost use Rattle.transcript.specs.declared.TheConstants.{LONGEST_SOURCE};
@@ -20,13 +20,14 @@ use std::alloc::{AllocError, Global};
 use std::error::Error;
 use std::fmt;
 
-// Why a text is not transcribed to its end.
+/// Why a text is not transcribed to its end.
 #[derive(Clone, Copy, PartialEq, Eq, Debug)]
 pub enum Failure {
+    /// Memory was wanting.
     NoMemory,
-    // The text is longer than a source may be.
+    /// The text is longer than [`LONGEST_SOURCE`].
     TooLong,
-    // The transcript met a fault.
+    /// The transcript met a fault.
     Faulted(FaultAt),
 }
 
@@ -63,15 +64,17 @@ impl From<FaultAt> for Failure {
     }
 }
 
-// A text in the target set, and how many characters that is.
+/// What was transcribed.
 #[derive(Drop)]
 pub struct Transcription {
+    /// The text in the target set.
     pub text: Vec<u8>,
+    /// How many characters the text has.
     pub characters: u64,
 }
 
 impl Transcription {
-    // No text.
+    /// No text.
     pub fn empty(heap: Global) -> Transcription
         ensures text { result.text.items ≡ [] }
         ensures characters { result.characters ≡ 0 }
@@ -123,7 +126,8 @@ fn offer_all<S: CharacterSet, T: CharacterSet>(
     Ok(())
 }
 
-// The bytes in another set, into the place of a text: up to their end, or to a fault.
+/// Transcribes bytes of the source set into the target set, up to their end or to a fault. What
+/// was transcribed replaces what `into` held, also where the call fails.
 #[tactic(auto, using(crate::proofs::Whole::the_law))]
 pub fn transcribe<S: CharacterSet + Drop, T: CharacterSet + Drop>(
     source: S,
