@@ -14,6 +14,7 @@ use Rattle.roll.specs.Told.{refusal_told}
 use Rattle.roll.proofs.FormNumbers.{same_form, form_not_0}
 use Rattle.roll.proofs.OneAnswer.{one_answer}
 use Rattle.transcript.specs.declared.answers.Done.{Done}
+use Rattle.transcript.specs.declared.answers.Told.{Told}
 use Rattle.transcript.specs.Told.{with_fault}
 use Rattle.transcript.specs.Carried.{Outcome, fault_in, offset_in}
 use Rattle.report.specs.declared.fault.RollFault.{RollFault}
@@ -22,15 +23,15 @@ use Rattle.report.specs.Texts.{on_page, page_form, IsFormText}
 use Rattle.report.specs.Reports.{PageBlock, PagesWritten, number_line, InputRefused, OneReport}
 
 -- the number and the offset of a fault that is told
-told_number : (n s : ℕ) (x : Fault) (o : ℕ) (d : Done) → (with_fault n s x o d).number ≡ n
-told_number n s (Unread q) o d = refl
-told_number n s (Unwritten c) o d = refl
-told_number n s Unfinished o d = refl
+told_number : (t : Told) (o : ℕ) (d : Done) (x : Fault) → (with_fault t o d x).number ≡ t.number
+told_number t o d (Unread q) = refl
+told_number t o d (Unwritten c) = refl
+told_number t o d Unfinished = refl
 
-told_offset : (n s : ℕ) (x : Fault) (o : ℕ) (d : Done) → (with_fault n s x o d).offset ≡ o
-told_offset n s (Unread q) o d = refl
-told_offset n s (Unwritten c) o d = refl
-told_offset n s Unfinished o d = refl
+told_offset : (t : Told) (o : ℕ) (d : Done) (x : Fault) → (with_fault t o d x).offset ≡ o
+told_offset t o d (Unread q) = refl
+told_offset t o d (Unwritten c) = refl
+told_offset t o d Unfinished = refl
 
 -- the line tells of an outcome just its fault and its offset
 same_line : (n c : ℕ) (form : Option Form) (bytes : List ℕ) (o p : Outcome)
@@ -42,10 +43,10 @@ same_line n c form bytes (Err f) (Ok v) e h = cc
 same_line n c form bytes (Err f) (Err g) e h =
     let same : f.fault ≡ g.fault = cc in
     rw (
-      told_number _ 0 f.fault f.offset f.done,
-      told_offset _ 0 f.fault f.offset f.done,
-      told_number _ 0 g.fault g.offset g.done,
-      told_offset _ 0 g.fault g.offset g.done,
+      told_number _ f.offset f.done f.fault,
+      told_offset _ f.offset f.done f.fault,
+      told_number _ g.offset g.done g.fault,
+      told_offset _ g.offset g.done g.fault,
       same,
       h,
     ) refl
