@@ -19,7 +19,7 @@ import textwrap
 import time
 from typing import NamedTuple
 
-from texts import CZECH, GERMAN, text, with_parity, words
+from texts import CZECH, GERMAN, HUNGARIAN, again, text, with_parity, words
 
 TOP = pathlib.Path(__file__).resolve().parent.parent
 RECODE = str(TOP / "target/bin/recode")
@@ -36,8 +36,8 @@ client of the [C interface](C-INTERFACE.md). Made by `make bench`; `make test` t
 Machine: {machine}.
 
 Instructions per byte are those of callgrind, without what an empty text takes; MB/s the median of
-{runs} runs. The first four texts have one accent before five vowels; the German and the Czech are
-common words by chance.
+{runs} runs. The first four texts have one accent before five vowels; German, Czech and Hungarian
+are common words by chance. 6937 is ISO/IEC 6937, and 8859-16 is ISO/IEC 8859-16.
 """
 NOTES = """
 A run of bytes that stand alone in both sets goes by a table of 256 that a transcript fills at its
@@ -131,26 +131,32 @@ def paragraphs(prose):
 
 
 def races():
-    read = ["iconv", "-f", "ISO_6937", "-t", "UTF-8"]
-    write = ["iconv", "-f", "UTF-8", "-t", "ISO_6937"]
-    accented = text(MIB, b"\xc2")
-    plain = text(MIB, b"")
-    unicode = run(read, accented)
+    def iconv(source, target):
+        return ["iconv", "-f", source, "-t", target]
+
+    def recoded(source, target, unicode):
+        """A race on a text that is given in UTF-8."""
+        names = {"1": "ISO_6937", "4": "ISO-8859-16", "6": "UTF-8"}
+        given = run(iconv("UTF-8", names[source]), unicode)
+        return source, target, given, iconv(names[source], names[target]), given
+
+    accented, plain = text(MIB, b"\xc2"), text(MIB, b"")
+    read = iconv("ISO_6937", "UTF-8")
     parity = with_parity(text(MIB, b"\x19\x42"))
-    german, czech = words(MIB, GERMAN), words(MIB, CZECH)
+    german, czech, hungarian = (words(MIB, w) for w in (GERMAN, CZECH, HUNGARIAN))
     return [
-        Race("ISO/IEC 6937 into UTF-8, one letter in eight accented", "1", "6",
-             accented, read, accented),
+        Race("6937 into UTF-8, one letter in eight accented", "1", "6", accented, read, accented),
         Race("the same, plain ASCII", "1", "6", plain, read, plain),
-        Race("UTF-8 into ISO/IEC 6937, the first text", "6", "1", unicode, write, unicode),
+        Race("UTF-8 into 6937, the first text", *recoded("6", "1", run(read, accented))),
         Race("form 3 (7 bits, parity) into UTF-8; iconv on the first text", "3", "6",
              parity, read, accented),
-        Race("German, UTF-8 into ISO/IEC 6937", "6", "1", german, write, german),
-        Race("German, ISO/IEC 6937 into UTF-8", "1", "6",
-             run(write, german), read, run(write, german)),
-        Race("Czech, UTF-8 into ISO/IEC 6937", "6", "1", czech, write, czech),
-        Race("Czech, ISO/IEC 6937 into UTF-8", "1", "6",
-             run(write, czech), read, run(write, czech)),
+        Race("German, UTF-8 into 6937", *recoded("6", "1", german)),
+        Race("German, 6937 into UTF-8", *recoded("1", "6", german)),
+        Race("Czech, UTF-8 into 6937", *recoded("6", "1", czech)),
+        Race("Czech, 6937 into UTF-8", *recoded("1", "6", czech)),
+        Race("German, 8859-16 into 6937", *recoded("4", "1", german)),
+        Race("Hungarian, 8859-16 into 6937", *recoded("4", "1", hungarian)),
+        Race("`ÀàÉé` on and on, UTF-8 into 6937", *recoded("6", "1", again(MIB, "ÀàÉé"))),
     ]
 
 

@@ -16,6 +16,12 @@ má může této není jejich byla první práce člověk města přes dobře ř
 další nový české země většina můžeme během další něco každý příliš své tím
 své děti část žena dům čas život místo slovo otázka ruka hlava oči""".split()
 
+HUNGARIAN = """a az és hogy nem is egy volt ez csak de meg mint már el még ha van azt ki mert
+vagy fel úgy majd minden lehet kell sem volna így igen amely első két között után szerint
+több nagy magyar idő év ember őket később rég jó új két három ötven hűség győr
+könyv őszi fű felé élet világ ország kormány törvény művészet köszönöm tűz víz
+erdő hegyek gyerekek általános következő különböző""".split()
+
 
 def text(size, accent):
     """Letters and spaces, about one letter in eight with the accent before it, if there is one."""
@@ -34,6 +40,11 @@ def words(size, vocabulary):
     while len(out) < size - 32:
         out += f"{CHANCE.choice(vocabulary)} ".encode()
     return bytes(out)
+
+
+def again(size, letters):
+    """The same letters again and again, in UTF-8."""
+    return letters.encode() * (size // len(letters.encode()))
 
 
 def with_parity(text):

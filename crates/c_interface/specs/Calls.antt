@@ -2,7 +2,7 @@
 use Rattle.std.specs.Prelude.{◌≡◌, ℕ, ◌⊎◌, Bool, true, false, List, Ok, Err, Result}
 use Rattle.transcript.specs.declared.answers.Done.{Done}
 use Rattle.transcript.specs.declared.answers.Told.{Told}
-use Rattle.transcript.specs.Told.{with_done}
+use Rattle.transcript.specs.Told.{alone, with_done}
 use Rattle.transcript.specs.Law.{TranscriptionLaw}
 use Rattle.roll.specs.declared.page.Form.{Form}
 use Rattle.roll.specs.Forms.{form_number}
@@ -27,7 +27,7 @@ CallOutcome = Result (Unit {0}) CallRefusal
 
 -- true and what an offer did, or false and why the call does not succeed
 abbrev pub Answers : OfferOutcome → Told → Bool → Type 0
-Answers (Ok d) answer succeeds = (answer ≡ with_done 0 d) × (succeeds ≡ true)
+Answers (Ok d) answer succeeds = (answer ≡ with_done (alone 0) d) × (succeeds ≡ true)
 Answers (Err q) answer succeeds = (answer ≡ call_told q) × (succeeds ≡ false)
 
 -- a call that is no offer did nothing with buffers

@@ -1,6 +1,6 @@
 -- A transcript between two forms of text, as numbers.
-use Rattle.std.specs.Prelude.{◌≡◌, ℕ, ◌≤◌, ◌⊎◌, ◌≢◌}
-use Rattle.charset.specs.Meaning.{IsOpening}
+use Rattle.std.specs.Prelude.{◌≡◌, ℕ, ◌⊎◌, ◌≢◌}
+use Rattle.charset.specs.Meaning.{IsOpening, IsCodePoint}
 use Rattle.charset.specs.Padding.{padded}
 use Rattle.conversion.specs.declared.Fault.{Fault}
 use Rattle.conversion.specs.declared.Fault.TheVariants.{Unread, Unwritten, Unfinished}
@@ -57,11 +57,11 @@ record_of f g s =
       bytes = padded s.held;
     }
 
--- a fault that a transcript can meet, by an offer or a closing that did that: a character is at
--- most U+10FFFF, and a closing, which alone finds a source unfinished, takes and writes nothing
+-- a fault that a transcript can meet, by an offer or a closing that did that: a character is a code
+-- point, and a closing, which alone finds a source unfinished, takes and writes nothing
 abbrev pub CanMeet : Fault → Done → Type 0
 CanMeet (Unread q) d = Unit {0}
-CanMeet (Unwritten c) d = c ≤ 0x10ffff
+CanMeet (Unwritten c) d = IsCodePoint c
 CanMeet Unfinished d = d ≡ done 0 0
 
 abbrev pub CanStand : FaultAt → Type 0

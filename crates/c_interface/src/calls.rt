@@ -1,4 +1,4 @@
-// The calls on a record.
+//! The calls on a record.
 ghost use Rattle.std.specs.Prelude.{◌≡◌, IfOk, IfErr};
 ghost use Rattle.roll.specs.Forms.{form_number};
 ghost use Rattle.c_interface.specs.Records.{NoForm};
@@ -20,6 +20,7 @@ fn form_of(number: u32) -> Result<Form, CallRefusal>
     Ok(Form::try_from(number)?)
 }
 
+// Opens a transcript between the forms with these numbers.
 pub(crate) fn open(source: u32, target: u32, kept: &mut TranscriptRecord) -> Result<(), CallRefusal>
     ensures { Opens source target kept.old kept.new result }
 {
@@ -32,6 +33,7 @@ pub(crate) fn open(source: u32, target: u32, kept: &mut TranscriptRecord) -> Res
     Ok(())
 }
 
+// Starts the transcript again.
 pub(crate) fn start(kept: &mut TranscriptRecord) -> Result<(), CallRefusal>
     ensures { Starts kept.old kept.new result }
 {
@@ -41,6 +43,7 @@ pub(crate) fn start(kept: &mut TranscriptRecord) -> Result<(), CallRefusal>
     Ok(())
 }
 
+// Offers the transcript a sector and an output.
 pub(crate) fn offer(
     heap: Global,
     kept: &mut TranscriptRecord,
@@ -57,6 +60,7 @@ pub(crate) fn offer(
     Ok(outcome?)
 }
 
+// Closes the transcript.
 pub(crate) fn close(heap: Global, kept: &mut TranscriptRecord) -> Result<(), CallRefusal>
     ensures { Closes kept.old kept.new result }
 {
@@ -68,6 +72,7 @@ pub(crate) fn close(heap: Global, kept: &mut TranscriptRecord) -> Result<(), Cal
     Ok(outcome?)
 }
 
+// Tells what the transcript has come to.
 pub(crate) fn status(kept: &TranscriptRecord, status: &mut StatusRecord) -> Result<(), CallRefusal>
     ensures { Tells kept.now status.old status.new result }
 {

@@ -1,4 +1,4 @@
-// The calls as a client makes them: what each refuses, and that a refused call changes nothing.
+//! The calls as a client makes them: what each refuses, and that a refused call changes nothing.
 use crate::{
     StatusRecord, TranscriptRecord, finetalc_close, finetalc_offer, finetalc_open, finetalc_start,
     finetalc_status,

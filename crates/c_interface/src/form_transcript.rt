@@ -1,4 +1,4 @@
-// A transcript between two forms of text, without its sets: what a record keeps.
+//! A transcript between two forms of text, without its sets: what a record keeps.
 ghost use Rattle.std.specs.Prelude.{◌≡◌};
 ghost use Rattle.charset.specs.Padding.{padded};
 
@@ -9,6 +9,7 @@ use roll::Form;
 use std::alloc::{AllocError, Global};
 use transcript::{Progress, Transcript};
 
+// The two forms, and what the transcript has come to.
 #[derive(Clone, Copy)]
 pub(crate) struct FormTranscript {
     pub(crate) source: Form,
@@ -31,7 +32,7 @@ impl FormTranscript {
     ghost use Rattle.c_interface.specs.Records.{NoTranscript, WantsMemory};
     ghost use Rattle.c_interface.specs.FormTranscripts.{CanBeKept, KeepsTranscript, ResumesAs};
 
-    // The transcript that a record keeps.
+    // The transcript that a record keeps; `None` where it keeps none.
     pub(crate) fn of(kept: &TranscriptRecord) -> Option<FormTranscript>
         ensures { MatchOption result (NoTranscript kept.now) (KeepsTranscript kept.now) }
     {

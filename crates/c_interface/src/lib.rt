@@ -1,6 +1,7 @@
-// The library for clients in C: a transcript is a record of numbers that the client keeps. Each
-// call reads the record, makes the call, and writes what the transcript has come to back into the
-// record. The library itself keeps nothing between calls.
+//! The library for clients in C: a transcript is a record of numbers that the client keeps. Each
+//! call reads the record, makes the call, and writes what the transcript has come to back into the
+//! record. The library itself keeps nothing between calls. A call returns true where it succeeds;
+//! the answer holds what an offer took and wrote, or the number of the refusal with its values.
 #![tactic(auto)]
 
 ghost use Rattle.transcript.specs.Stacks.{TheLaw};
@@ -48,7 +49,8 @@ fn tell_alone(outcome: Result<(), CallRefusal>, answer: &mut Told) -> bool
     }
 }
 
-// Opens a transcript from one form of text into another, each by its number, 1 to 7.
+/// Opens a transcript from one form of text into another, each by its number, 1 to 7. Refused with
+/// 101 where a form has another number.
 #[unsafe(no_mangle)]
 pub extern "C" fn finetalc_open(
     source: u32,
@@ -61,7 +63,7 @@ pub extern "C" fn finetalc_open(
     tell_alone(calls::open(source, target, transcript), answer)
 }
 
-// Starts a transcript again, and forgets all before.
+/// Starts a transcript again, and forgets all before. Refused with 102 where the record keeps none.
 #[unsafe(no_mangle)]
 pub extern "C" fn finetalc_start(transcript: &mut TranscriptRecord, answer: &mut Told) -> bool
     ensures { AnswersCall (Starts transcript.old transcript.new) answer.new result }
@@ -69,8 +71,9 @@ pub extern "C" fn finetalc_start(transcript: &mut TranscriptRecord, answer: &mut
     tell_alone(calls::start(transcript), answer)
 }
 
-// Reads the held bytes and then the sector from the front, and writes each character behind the one
-// before.
+/// Reads the held bytes and then the sector from the front, and writes each character behind the
+/// one before. Refused with 1 to 8 by the transcript, 102 where the record keeps none, and 0 for
+/// want of memory.
 #[unsafe(no_mangle)]
 #[tactic(auto, using(transcript::proofs::Whole::the_law))]
 pub extern "C" fn finetalc_offer(
@@ -89,7 +92,8 @@ pub extern "C" fn finetalc_offer(
     tell(calls::offer(heap, transcript, sector, output), answer)
 }
 
-// Closes a transcript, unless bytes are held.
+/// Closes a transcript, unless bytes are held. Refused with 4, 5 or 9 by the transcript, 102 where
+/// the record keeps none, and 0 for want of memory.
 #[unsafe(no_mangle)]
 pub extern "C" fn finetalc_close(
     heap: Global,
@@ -101,7 +105,8 @@ pub extern "C" fn finetalc_close(
     tell_alone(calls::close(heap, transcript), answer)
 }
 
-// Tells what a transcript has come to since it was started.
+/// Tells what a transcript has come to since it was started. Refused with 102 where the record
+/// keeps none.
 #[unsafe(no_mangle)]
 pub extern "C" fn finetalc_status(
     transcript: &TranscriptRecord,

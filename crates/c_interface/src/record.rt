@@ -1,4 +1,4 @@
-// A transcript between two forms of text, as numbers.
+//! A transcript between two forms of text, as numbers.
 ghost use Rattle.std.specs.Prelude.{◌≡◌, MatchOption};
 ghost use Rattle.c_interface.specs.Records.{fault_record, status_record, HasFault, HasState};
 ghost use Rattle.c_interface.specs.Records.{HasStatus};
@@ -8,29 +8,35 @@ use charset::SetRefusal;
 use conversion::Fault;
 use transcript::{Done, FaultAt, Place, State, Status, Told};
 
-// `finetalc_progress`: what a transcript has come to since it was started.
+/// `finetalc_progress`: what a transcript has come to since it was started.
 #[repr(C)]
 #[derive(Clone, Copy, PartialEq, Eq, Debug, Default)]
 pub struct StatusRecord {
-    // The fault that stands; all 0 where none does.
+    /// The fault that stands; all 0 where none does.
     pub fault: Told,
+    /// How many bytes were taken, those held among them.
     pub taken: u64,
+    /// How many characters were converted.
     pub characters: u64,
+    /// How many bytes were written.
     pub written: u64,
-    // How many bytes are held.
+    /// How many bytes are held.
     pub held: usize,
-    // 0 where it is open, 1 faulted, 2 closed.
+    /// 0 where it is open, 1 faulted, 2 closed.
     pub state: u32,
 }
 
-// `finetalc_transcript`: what it has come to, the numbers of its forms, and the bytes that are
-// held, with 0 behind them.
+/// `finetalc_transcript`: a transcript between two forms of text.
 #[repr(C)]
 #[derive(Clone, Copy, PartialEq, Eq, Debug, Default)]
 pub struct TranscriptRecord {
+    /// What it has come to.
     pub status: StatusRecord,
+    /// The number of its source form, 1 to 7.
     pub source: u8,
+    /// The number of its target form, 1 to 7.
     pub target: u8,
+    /// The bytes that are held, with 0 behind them.
     pub bytes: [u8; 4],
 }
 

@@ -1,4 +1,4 @@
-// Why a call of a C client does not succeed.
+//! Why a call of a C client does not succeed.
 ghost use Rattle.std.specs.Prelude.{◌≡◌};
 ghost use Rattle.c_interface.specs.declared.refusal.CallRefusal.TheVariants as refusal;
 ghost use Rattle.c_interface.specs.Refusals.{call_told};
@@ -8,20 +8,21 @@ use std::alloc::AllocError;
 use std::num::TryFromIntError;
 use transcript::{Refusal, Told};
 
+/// Why a call of a C client does not succeed.
 #[derive(Clone, Copy, PartialEq, Eq, Debug)]
 pub enum CallRefusal {
-    // There is no memory for the list of a form.
+    /// There is no memory for the list of a form.
     NoMemory,
-    // No form has that number.
+    /// No form has that number.
     UnknownForm,
-    // The record's numbers are not those of a transcript.
+    /// The record's numbers are not those of a transcript.
     NoTranscript,
-    // The transcript refuses.
+    /// The transcript refuses.
     Refused(Refusal),
 }
 
 impl CallRefusal {
-    // The refusal by its number and values.
+    /// The refusal by its number and values: 0, 101, 102, or what the transcript tells.
     pub fn told(&self) -> Told
         ensures { result ≡ call_told self.now }
     {

@@ -175,7 +175,7 @@ module _ (S T : Meaning) (l : Laws S) (input out o : List ℕ) (count at put : �
   pub far_ends : (k : End) (o' last : List ℕ)
       → Stops S T (drop at input) 0 (length (take (length o - put) (drop put o))) k
       → last ≡ take (length o - put) (drop put o) → o' ≡ put_mid put (length o - put) o last
-      → Runs S T input out o' (record { characters = count; read = at; written = put; end = k })
+      → Runs S T input out o' (record { characters = count; read = at; written = put }) k
   far_ends k o' last s e o'-is =
       let into = far.room in let inside = far.inside in let same = far.size in
       let back : o' ≡ o = o'-is ∙ ap (put_mid put (length o - put) o) e

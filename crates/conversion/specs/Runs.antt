@@ -2,15 +2,15 @@
 use Rattle.std.specs.Prelude.{◌≡◌, ℕ, ◌≤◌, List, ◌++◌, length, take, drop}
 use Rattle.charset.specs.Meaning.{Meaning}
 use Rattle.conversion.specs.declared.Run.{Run}
-use Rattle.conversion.specs.Stops.{Leads, Reaches}
+use Rattle.conversion.specs.Stops.{End, Leads, Reaches}
 
--- characters that fit lead to the run's end; they stand in front of the output, whose rest is as it
--- was; and the run counts them
-pub record Runs (S T : Meaning) (input out out' : List ℕ) (r : Run) : Type 0 where
+-- characters that fit lead to that end; they stand in front of the output, whose rest is as it was;
+-- and the run counts them
+pub record Runs (S T : Meaning) (input out out' : List ℕ) (r : Run) (end : End) : Type 0 where
   pub chars : List ℕ
   pub source : List ℕ
   pub target : List ℕ
-  pub reaches : Reaches S T input (length out) r.end chars source target
+  pub reaches : Reaches S T input (length out) end chars source target
   pub left : out' ≡ target ++ drop (length target) out
   pub characters : r.characters ≡ length chars
   pub read : r.read ≡ length source

@@ -25,7 +25,8 @@ pub record Leads (S T : Meaning) (input : List ℕ) (room : ℕ)
 
 -- the character c stands in front, and has no coding in the target set
 abbrev pub IsUnwritable : Meaning → Meaning → List ℕ → ℕ → Type 0
-IsUnwritable S T rest c = (n : ℕ) × Reads S rest (Ok (Found c n)) × (T.codings.string c ≡ None)
+IsUnwritable S T rest c =
+    (n : ℕ) × Reads S rest (Ok (Found c n)) × (T.codings.string c ≡ None)
 
 -- what comes next is an end: with used bytes of the output written,
 -- the rest is an opening; or the target coding of its first character does not fit; or that

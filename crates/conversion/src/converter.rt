@@ -3,9 +3,9 @@ ghost use Rattle.std.specs.Prelude.{◌≡◌, ◌++◌};
 ghost use Rattle.conversion.specs.Pairs.{IsRightFor};
 ghost use Rattle.conversion.specs.Runs.{Runs};
 
-use crate::Run;
 use crate::met::MetCodings;
 use crate::two_sets::TwoSets;
+use crate::{Fault, Pause, Run};
 use charset::{CharacterSet, Front};
 
 /// Converts characters from one set into another. It keeps which bytes and codings it met, and what
@@ -32,13 +32,20 @@ impl<S: CharacterSet, T: CharacterSet> Converter<S, T> {
 
     /// Converts the held bytes and then the sector, character after character, into the front of
     /// the output, until an end comes: an opening or nothing is left, the next coding does not fit,
-    /// or a fault stands there. The rest of the output stays as it was.
-    pub fn convert(&mut self, held: Front, sector: &[u8], output: &mut [u8]) -> Run
+    /// or a fault stands there. The rest of the output stays as it was. How far it came stands in
+    /// `run`, whatever ends it.
+    pub fn convert(
+        &mut self,
+        held: Front,
+        sector: &[u8],
+        output: &mut [u8],
+        run: &mut Run,
+    ) -> Result<Pause, Fault>
         ensures same_sets { SameSets self.old self.new }
         ensures runs { Runs (source self.old) (target self.old)
-            (held ++ sector.now) output.old output.new result }
+            (held ++ sector.now) output.old output.new run.new result }
     {
         self.sets.prepare(sector.len());
-        self.sets.run(&mut self.met, held, sector, output)
+        self.sets.run(&mut self.met, held, sector, output, run)
     }
 }

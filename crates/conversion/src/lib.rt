@@ -50,8 +50,8 @@ pub enum Advance {
     Paused(Pause),
 }
 
-/// How far a conversion came, and what ended it.
-#[derive(Clone, Copy)]
+/// How far a conversion came.
+#[derive(Clone, Copy, Default)]
 pub struct Run {
     /// How many characters were converted.
     pub characters: usize,
@@ -59,8 +59,6 @@ pub struct Run {
     pub read: usize,
     /// How many bytes of the output they were written as.
     pub written: usize,
-    /// What ended it.
-    pub end: Result<Pause, Fault>,
 }
 
 // The target coding of the character in front of the input, and how many bytes the character is

@@ -1,6 +1,6 @@
 //! Codings of two and of three bytes, with the coding that each becomes, kept as they are met.
-ghost use Rattle.std.specs.Prelude.{◌≡◌, ℕ, ◌≤◌, ◌+◌, ◌*◌, ◌%◌, List};
-ghost use Rattle.std.specs.Prelude.{length, take, Some, None, replicate};
+ghost use Rattle.std.specs.Prelude.{◌≡◌, ◌+◌, ◌*◌, ◌%◌, length, take, Some, None};
+ghost use Rattle.std.specs.Prelude.{replicate};
 ghost use Rattle.charset.specs.Meaning.{Meaning};
 ghost use Rattle.conversion.specs.Becomes.{becomes};
 ghost use Rattle.conversion.specs.Met.{found_in, kept_with, Right, FoundNext};

@@ -195,44 +195,31 @@ impl<S: CharacterSet, T: CharacterSet> TwoSets<S, T> {
         held: Front,
         sector: &[u8],
         output: &mut [u8],
-    ) -> Run
+        run: &mut Run,
+    ) -> Result<Pause, Fault>
         requires { IsRightFor self.now met.old }
         ensures right { IsRightFor self.now met.new }
         ensures runs { Runs (source self.now) (target self.now)
-            (held ++ sector.now) output.old output.new result }
+            (held ++ sector.now) output.old output.new run.new result }
     {
         prove!(held.len() <= 4);
-        let mut characters = 0;
-        let mut read = 0;
-        let mut written = 0;
-        let end = 'run: loop {
-            let copied = self.plain_at(held, sector, read, &mut output[written..]);
+        *run = Run::default();
+        'turns: loop {
+            let copied = self.plain_at(held, sector, run.read, &mut output[run.written..]);
             if copied > 0 {
-                characters += copied;
-                read += copied;
-                written += copied;
-                continue;
+                run.characters += copied;
+                run.read += copied;
+                run.written += copied;
+                continue 'turns;
             }
-            match self.one_at(met, held, sector, read, &mut output[written..]) {
-                Ok(
-                    Advance::Written {
-                        read: more,
-                        written: put,
-                    },
-                ) => {
-                    characters += 1;
-                    read += more;
-                    written += put;
+            match self.one_at(met, held, sector, run.read, &mut output[run.written..])? {
+                Advance::Written { read, written } => {
+                    run.characters += 1;
+                    run.read += read;
+                    run.written += written;
                 }
-                Ok(Advance::Paused(pause)) => break Ok(pause),
-                Err(fault) => break Err(fault),
+                Advance::Paused(pause) => return Ok(pause),
             }
-        };
-        Run {
-            characters,
-            read,
-            written,
-            end,
         }
     }
 }

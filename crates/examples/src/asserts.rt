@@ -1,8 +1,9 @@
-// What the examples assert of a set.
+//! What the examples assert of a set.
 use charset::{CharacterSet, Reading, SetRefusal};
 use std::process::Abort;
 use std::test::Fail;
 
+// The coding of the character stands in front, so many bytes long.
 pub(crate) fn reads<S: CharacterSet>(
     rt: &impl Abort,
     set: &S,
@@ -13,10 +14,12 @@ pub(crate) fn reads<S: CharacterSet>(
     assert_eq!(rt; set.read(bytes), Ok(Reading::Found { character, length }));
 }
 
+// The bytes are an opening.
 pub(crate) fn opens<S: CharacterSet>(rt: &impl Abort, set: &S, bytes: &[u8]) {
     assert_eq!(rt; set.read(bytes), Ok(Reading::Open));
 }
 
+// The bytes are refused with this cause, at this depth.
 pub(crate) fn refuses<S: CharacterSet>(
     rt: &impl Abort,
     set: &S,
@@ -27,6 +30,7 @@ pub(crate) fn refuses<S: CharacterSet>(
     assert_eq!(rt; set.read(bytes), Err(SetRefusal { cause, depth }));
 }
 
+// The character is written as these bytes.
 pub(crate) fn writes<S: CharacterSet>(
     rt: &impl Abort,
     set: &S,
@@ -38,6 +42,7 @@ pub(crate) fn writes<S: CharacterSet>(
     Ok(())
 }
 
+// The character has no coding.
 pub(crate) fn writes_nothing<S: CharacterSet>(rt: &impl Abort, set: &S, number: u32) {
     assert!(rt; set.write(number).is_none());
 }

@@ -1,4 +1,4 @@
-// Stacks of layers: that each is a character set follows from its type alone.
+//! Stacks of layers: that each is a character set follows from its type alone.
 ghost use Rattle.charset.specs.Sets.{set_of};
 ghost use Rattle.charset.specs.Decoding.{ReadByLaws};
 ghost use Rattle.sets.specs.Iso6937.{iso6937};
@@ -10,8 +10,8 @@ use forms::PAGE_CONTROLS;
 use layers::{with_controls, with_parity, with_shift};
 use sets::Iso6937;
 
-// What stands in front of a page of 7-bit ISO/IEC 6937 with the controls of a page, all under
-// parity.
+/// What stands in front of a page of 7-bit ISO/IEC 6937 with the controls of a page, all under
+/// parity.
 pub fn read_with_parity(bytes: &[u8]) -> Result<Reading, SetRefusal>
     ensures { ReadByLaws (parity (controls page_controls (shift iso6937))) bytes.now result }
 {
@@ -19,8 +19,8 @@ pub fn read_with_parity(bytes: &[u8]) -> Result<Reading, SetRefusal>
     read_front(&stack, bytes)
 }
 
-// What stands in front of bytes under three layers, on any set. The controls lie under shift here,
-// as they may: layers stack in any order.
+/// What stands in front of bytes under three layers, on any set. The controls lie under shift here:
+/// layers stack in any order.
 pub fn read_three_deep<S: CharacterSet + Drop>(
     chosen: [bool; 32],
     below: S,

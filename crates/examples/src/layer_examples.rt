@@ -1,4 +1,4 @@
-// The four layers on the sets of this repository and on an odd one.
+//! The four layers on the sets of this repository and on an odd one.
 use crate::asserts::{opens, reads, refuses, writes, writes_nothing};
 use crate::odd::Odd;
 use layers::{CharacterList, with_controls, with_list, with_parity, with_shift};
@@ -108,6 +108,7 @@ fn lists(rt: HostRuntime) -> Result<(), Fail> {
     Ok(())
 }
 
+// The numbers are no list for ISO/IEC 6937, and the refusal has this number.
 fn refused_with(
     list: &mut CharacterList,
     rt: &(impl Abort + AllocGlobal),

@@ -1,4 +1,4 @@
-// Worked examples: the statement that is proved of the definitions, demonstrations, and tests.
+//! Worked examples: the statement that is proved of the definitions, demonstrations, and tests.
 #![tactic(auto)]
 
 ghost use Rattle.examples.specs.Transcripts.{WorkedExamples};
@@ -20,7 +20,7 @@ mod transcripts;
 
 pub use demonstrations::{read_three_deep, read_with_parity};
 
-// Proves the worked examples; there is nothing to run.
+/// Proves the worked examples; there is nothing to run.
 #[tactic(auto, using(crate::proofs::ShownTranscripts::worked_examples))]
 pub fn worked_examples()
     ensures { WorkedExamples }

@@ -1,4 +1,4 @@
-// A set of our own making, lawful and odd, for the layers to stand on.
+//! A set of our own making, lawful and odd, for the layers to stand on.
 ghost use Rattle.std.specs.Prelude.{◌≡◌};
 ghost use Rattle.examples.specs.Odd.{odd_single, odd_pair, odd_opens, odd_codings};
 ghost use Rattle.examples.specs.Odd.{odd_openings, odd_causes};
@@ -6,6 +6,8 @@ ghost use Rattle.examples.specs.Laws.Odd.{odd_laws};
 
 use charset::{CharacterSet, Coding, Reading, SetRefusal};
 
+/// A set that is lawful and odd: an opening that begins no coding, codings with bytes 19 and 80 to
+/// 9F, a surrogate and U+0000 as characters, and a cause as deep as can be.
 #[derive(Clone, Copy)]
 pub struct Odd;
 

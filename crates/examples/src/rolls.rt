@@ -1,4 +1,4 @@
-// Rolls: every refusal at its edge, all eight forms, and what is written of a roll.
+//! Rolls: every refusal at its edge, all eight forms, and what is written of a roll.
 use report::report;
 use roll::{Builder, PackRefusal, Roll, RollRefusal};
 use std::process::Abort;

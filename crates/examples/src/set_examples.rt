@@ -1,5 +1,5 @@
-// The examples of RFC 3629, section 7, the edges of UTF-8, and what a hasty reader of ISO/IEC 6937
-// gets wrong.
+//! The examples of RFC 3629, section 7, the edges of UTF-8, and what a hasty reader of ISO/IEC 6937
+//! gets wrong.
 use crate::asserts::{opens, reads, refuses, writes, writes_nothing};
 use charset::CharacterSet;
 use sets::{Iso6937, SingleByte, Utf8};

@@ -1,4 +1,4 @@
-// Stacks by their type alone.
+//! Stacks by their type alone.
 use crate::{read_three_deep, read_with_parity};
 use charset::{Reading, SetRefusal};
 use sets::Iso6937;

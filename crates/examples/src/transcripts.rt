@@ -1,5 +1,5 @@
-// Transcripts between the sets of this repository: every refusal but 3 from every state, and the
-// edges of an offer.
+//! Transcripts between the sets of this repository: every refusal but 3 from every state, and the
+//! edges of an offer.
 use charset::{Front, SetRefusal};
 use conversion::Fault;
 use sets::{Iso6937, SingleByte, Utf8};

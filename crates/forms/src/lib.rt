@@ -1,4 +1,4 @@
-// The character set of a form of text, chosen while the program runs.
+//! The character set of a form of text, chosen while the program runs.
 #![tactic(auto)]
 
 ghost use Rattle.std.specs.Prelude.{◌≡◌, MatchResult};
@@ -16,7 +16,7 @@ use roll::Form;
 use sets::{Iso6937, SingleByte, Utf8};
 use std::alloc::{AllocError, Global};
 
-// The controls of a page: 09, 0A, 0C and 0D.
+/// The control characters of a page, chosen from U+0000 to U+001F: 09, 0A, 0C and 0D.
 #[rattlefmt::skip]
 pub const PAGE_CONTROLS: [bool; 32] = [
     // 00 to 0F
@@ -27,14 +27,21 @@ pub const PAGE_CONTROLS: [bool; 32] = [
     false, false, false, false, false, false, false, false,
 ];
 
-// One case for each type of stack: those of ISO/IEC 8859-16 and of the Sami set are of one type.
+/// The character set of a form of text, one case for each type of stack: those of ISO/IEC 8859-16
+/// and of the Sami set are of one type.
 #[derive(Drop)]
 pub enum FormSet {
+    /// Form 1.
     EightBit(Controls<Iso6937>),
+    /// Form 2.
     SevenBit(Controls<Shift<Iso6937>>),
+    /// Form 3.
     SevenBitParity(Parity<Controls<Shift<Iso6937>>>),
+    /// Forms 4 and 5.
     SingleByte(Controls<SingleByte>),
+    /// Form 6.
     Unicode(Utf8),
+    /// Form 7.
     Basic(Controls<Subrepertoire<Iso6937>>),
 }
 
@@ -95,7 +102,7 @@ impl FormSet {
         }
     }
 
-    // The set of a form. Only the last has a list, which wants memory.
+    /// The set of a form; fails only for want of memory, which form 7 alone needs, for its list.
     pub fn of(heap: Global, form: Form) -> Result<FormSet, AllocError>
         ensures { MatchResult result (λ s. meaning_of s ≡ form_set form) (λ _. form ≡ Basic) }
     {
@@ -109,8 +116,8 @@ impl FormSet {
     }
 }
 
-// Whether the bytes are an opening of the set of a form. A list changes no openings, so none is
-// made, and no memory is wanted.
+/// Whether the bytes are an opening of the set of a form. A list changes no openings, so none is
+/// made.
 pub fn is_opening(form: Form, bytes: &[u8]) -> bool
     ensures { result ≡ (form_set form).openings bytes.now }
 {

@@ -13,16 +13,16 @@ use Rattle.layers.specs.declared.recoding.moves.WrittenByte.{WrittenByte}
 use Rattle.layers.specs.declared.recoding.moves.WrittenByte.TheVariants.{One, Two}
 use Rattle.layers.specs.declared.recoded.scan.Scan.{Scan}
 use Rattle.layers.specs.Depth.{own, up}
-use Rattle.layers.specs.Recoding.{Recoding, Agrees, before, shifted, below, ends, is_broken}
+use Rattle.layers.specs.Recoding.{Recoding, Agrees, before, in_form, below, ends, is_broken}
 use Rattle.layers.specs.Recoding.{recoded}
 use Rattle.layers.specs.Scans.{Scans, form_size, size_of}
-use Rattle.layers.specs.Laws.Recode.{below_front, reads_shifted}
+use Rattle.layers.specs.Laws.Recode.{below_front, reads_in_form}
 use Rattle.layers.proofs.LayerReads.{reads_found, reads_open, reads_refused, reads_own}
 
-pub shifted_size : (r : Recoding) (t u : List ℕ) → shifted r t ≡ Some u → length u ≡ size_of r t
-shifted_size r [] u e = let same : [] ≡ u = cc in rw (← same) refl
-shifted_size r (b ∷ t) u e =
-    go (r.form b) (shifted r t) (shifted_size r t) e
+pub in_form_size : (r : Recoding) (t u : List ℕ) → in_form r t ≡ Some u → length u ≡ size_of r t
+in_form_size r [] u e = let same : [] ≡ u = cc in rw (← same) refl
+in_form_size r (b ∷ t) u e =
+    go (r.form b) (in_form r t) (in_form_size r t) e
     ∙ sym (sum_by-cons (λ x. form_size (r.form x)) b t)
   where
     go : (f : Option WrittenByte) (o : Option (List ℕ))
@@ -46,9 +46,9 @@ module _ (r : Recoding) (m : Meaning) (a : Agrees r) (l : Laws m) (s : List ℕ)
       let clean_here = rw same at q.2 in
       let below_here : below r false (take q.0 s) ≡ take (suc j) (below r false (take 4 s)) =
       rw same at q.3 in
-      let back : shifted r (take (suc j) (below r false (take 4 s))) ≡ Some (take q.0 s) =
-      rw (← below_here) (reads_shifted a (take q.0 s) clean_here) in
-      let length_is = shifted_size r (take (suc j) (below r false (take 4 s))) (take q.0 s) back in
+      let back : in_form r (take (suc j) (below r false (take 4 s))) ≡ Some (take q.0 s) =
+      rw (← below_here) (reads_in_form a (take q.0 s) clean_here) in
+      let length_is = in_form_size r (take (suc j) (below r false (take 4 s))) (take q.0 s) back in
       let n_is : n ≡ q.0 = e ∙ sym length_is ∙ length-take-le q.0 s (omega arith) in
       rw n_is (reads_found r m a l s c q.0 (omega arith) (omega arith) clean_here
       (rw below_here h.1))

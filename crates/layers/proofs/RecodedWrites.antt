@@ -7,7 +7,7 @@ use Rattle.std.proofs.lemmas.Bool.{cases_lt, lt-ltb, le-ltb, le-leb, lt-leb}
 use Rattle.charset.specs.Strings.{with_byte}
 use Rattle.layers.specs.declared.recoding.moves.WrittenByte.{WrittenByte}
 use Rattle.layers.specs.declared.recoding.moves.WrittenByte.TheVariants.{One, Two}
-use Rattle.layers.specs.Recoding.{Recoding, before, shifted, at_most_four}
+use Rattle.layers.specs.Recoding.{Recoding, before, in_form, at_most_four}
 use Rattle.layers.specs.Scans.{extended}
 
 -- u, then what may follow
@@ -79,12 +79,12 @@ fails u (Two x y) e (Some v) = go (with_byte u x) refl e
 -- what the bytes so far promise of the whole
 pub record Made (r : Recoding) (t : List ℕ) (i : ℕ) (u : List ℕ) : Type 0 where
   pub small : length u ≤ 4
-  pub whole : shifted r t ≡ ahead u (shifted r (drop i t))
+  pub whole : in_form r t ≡ ahead u (in_form r (drop i t))
 
 module _ (r : Recoding) (t : List ℕ) (i : ℕ) (u : List ℕ) (made : Made r t i u) where
   module _ (h : i < length t) where
-    here : shifted r (drop i t) ≡ before (r.form (get_or t i 0)) (shifted r (drop (i + 1) t))
-    here = ap (shifted r) (drop-cons t i 0 h) ∙ rw (add-one i) refl
+    here : in_form r (drop i t) ≡ before (r.form (get_or t i 0)) (in_form r (drop (i + 1) t))
+    here = ap (in_form r) (drop-cons t i 0 h) ∙ rw (add-one i) refl
 
     pub made_more : (f : WrittenByte) (w : List ℕ) → r.form (get_or t i 0) ≡ Some f
         → extended u f ≡ Some w → Made r t (i + 1) w
@@ -92,15 +92,15 @@ module _ (r : Recoding) (t : List ℕ) (i : ℕ) (u : List ℕ) (made : Made r t
         let x = extends u f w e in record {
           small = x.0;
           whole =
-              made.whole ∙ rw (here, k) (x.1 (shifted r (drop (i + 1) t)));
+              made.whole ∙ rw (here, k) (x.1 (in_form r (drop (i + 1) t)));
         }
 
     pub made_fails : (f : WrittenByte) → r.form (get_or t i 0) ≡ Some f → extended u f ≡ None
-        → at_most_four (shifted r t) ≡ None
-    made_fails f k e = rw (made.whole, here, k) (fails u f e (shifted r (drop (i + 1) t)))
+        → at_most_four (in_form r t) ≡ None
+    made_fails f k e = rw (made.whole, here, k) (fails u f e (in_form r (drop (i + 1) t)))
 
-  pub made_whole : length t ≤ i → at_most_four (shifted r t) ≡ Some u
+  pub made_whole : length t ≤ i → at_most_four (in_form r t) ≡ Some u
   made_whole h =
       let none : drop i t ≡ [] = drop_of_length-le t h in
-      let all : shifted r t ≡ Some u = made.whole ∙ rw none (ap Some (append-nil u)) in
+      let all : in_form r t ≡ Some u = made.whole ∙ rw none (ap Some (append-nil u)) in
       rw (all, le-leb (length u) 4 made.small) refl

@@ -17,7 +17,7 @@ use Rattle.layers.specs.declared.recoding.moves.WrittenByte.{WrittenByte}
 use Rattle.layers.specs.declared.recoding.moves.WrittenByte.TheVariants.{One, Two}
 use Rattle.layers.specs.Depth.{own, up}
 use Rattle.layers.specs.Recoding.{End, clean, pending, broken, Recoding, put, stop, below, ends}
-use Rattle.layers.specs.Recoding.{before, shifted, is_broken, recoded, Agrees}
+use Rattle.layers.specs.Recoding.{before, in_form, is_broken, recoded, Agrees}
 use Rattle.layers.specs.Layers.{parity_form, parity_bytes, parity, shift_form, shift_step}
 use Rattle.layers.specs.Layers.{shift_bytes, shift}
 use Rattle.layers.specs.Words.{in_parity, InParity, Shifts, BeginsShifted, CannotFollow}
@@ -25,21 +25,21 @@ use Rattle.layers.specs.Words.{ParityMeaning, ShiftMeaning}
 use Rattle.charset.proofs.FrontLemmas.{reading_is, opening_passed, reads_on}
 use Rattle.charset.proofs.Places.{four}
 use Rattle.layers.specs.Laws.Recode.{codes_parts, codes_from, opens_parts, opens_from}
-use Rattle.layers.specs.Laws.Recode.{shifted_reads, reads_shifted}
+use Rattle.layers.specs.Laws.Recode.{in_form_reads, reads_in_form}
 use Rattle.layers.specs.Laws.LayersKeep.{parity_agrees, shift_agrees, parity_laws, shift_laws}
 use Rattle.layers.proofs.Faults.{first_fault}
 
 -- Parity: a byte's form is that byte with its parity
-parity_shifted : (t s : List ℕ) → InParity t s → shifted parity_bytes t ≡ Some s
-parity_shifted [] s h = ap Some (sym h.1)
-parity_shifted (b ∷ t) s h =
+parity_in_form : (t s : List ℕ) → InParity t s → in_form parity_bytes t ≡ Some s
+parity_in_form [] s h = ap Some (sym h.1)
+parity_in_form (b ∷ t) s h =
     let f : parity_form b ≡ Some (One (in_parity b)) =
     (let small = h.0.0 in grind (arith, nat_tests)) in
-    rw (f, parity_shifted t (map in_parity t) (h.0.1, refl)) (ap Some (sym h.1))
+    rw (f, parity_in_form t (map in_parity t) (h.0.1, refl)) (ap Some (sym h.1))
 
-shifted_parity : (t s : List ℕ) → shifted parity_bytes t ≡ Some s → InParity t s
-shifted_parity [] s e = (tt, cc)
-shifted_parity (b ∷ t) s e = go (cases_lt b 0x80) (shifted parity_bytes t) (shifted_parity t) e
+in_form_parity : (t s : List ℕ) → in_form parity_bytes t ≡ Some s → InParity t s
+in_form_parity [] s e = (tt, cc)
+in_form_parity (b ∷ t) s e = go (cases_lt b 0x80) (in_form parity_bytes t) (in_form_parity t) e
   where
     go : (b < 0x80) ⊎ (0x80 ≤ b) → (o : Option (List ℕ))
         → ((u : List ℕ) → o ≡ Some u → InParity t u) → before (parity_form b) o ≡ Some s
@@ -62,20 +62,20 @@ plain_form b h k = grind (arith, nat_tests)
 upper_form : (b : ℕ) → 0xa0 ≤ b → b < 0x100 → shift_form b ≡ Some (Two 0x19 (b - 0x80))
 upper_form b h k = grind (arith, nat_tests)
 
-shifts_shifted : (t s : List ℕ) → Shifts t s → shifted shift_bytes t ≡ Some s
-shifts_shifted [] s h = ap Some (sym h)
-shifts_shifted (b ∷ t) s h = go (shifts_shifted t h.0 h.1) h.2
+shifts_in_form : (t s : List ℕ) → Shifts t s → in_form shift_bytes t ≡ Some s
+shifts_in_form [] s h = ap Some (sym h)
+shifts_in_form (b ∷ t) s h = go (shifts_in_form t h.0 h.1) h.2
   where
-    go : shifted shift_bytes t ≡ Some h.0
+    go : in_form shift_bytes t ≡ Some h.0
         → ((b < 0x80) × (b ≡ 0x19 → ⊥) × (s ≡ b ∷ h.0))
         ⊎ ((0xa0 ≤ b) × (b < 0x100) × (s ≡ 0x19 ∷ (b - 0x80) ∷ h.0))
-        → before (shift_form b) (shifted shift_bytes t) ≡ Some s
+        → before (shift_form b) (in_form shift_bytes t) ≡ Some s
     go ih (inl k) = rw (plain_form b k.0 k.1, ih, k.2)
     go ih (inr k) = rw (upper_form b k.0 k.1, ih, k.2)
 
-shifted_shifts : (t s : List ℕ) → shifted shift_bytes t ≡ Some s → Shifts t s
-shifted_shifts [] s e = cc
-shifted_shifts (b ∷ t) s e = go (shift_form b) refl (shifted shift_bytes t) (shifted_shifts t) e
+in_form_shifts : (t s : List ℕ) → in_form shift_bytes t ≡ Some s → Shifts t s
+in_form_shifts [] s e = cc
+in_form_shifts (b ∷ t) s e = go (shift_form b) refl (in_form shift_bytes t) (in_form_shifts t) e
   where
     go : (f : Option WrittenByte) → shift_form b ≡ f → (o : Option (List ℕ))
         → ((u : List ℕ) → o ≡ Some u → Shifts t u) → before f o ≡ Some s → Shifts (b ∷ t) s
@@ -99,19 +99,19 @@ shifted_shifts (b ∷ t) s e = go (shift_form b) refl (shifted shift_bytes t) (s
 -- a form's codings and openings, by the strings that it shifts
 module _ {r : Recoding} (a : Agrees r) (m : Meaning) where
   form_codes : (s : List ℕ) (c : ℕ) → Codes (recoded r m) s c
-      → (t : List ℕ) × (shifted r t ≡ Some s) × Codes m t c × (length s ≤ 4)
+      → (t : List ℕ) × (in_form r t ≡ Some s) × Codes m t c × (length s ≤ 4)
   form_codes s c p =
-      let h = codes_parts r m s c p in (below r false s, reads_shifted a s h.1, h.2, h.0)
+      let h = codes_parts r m s c p in (below r false s, reads_in_form a s h.1, h.2, h.0)
 
-  form_coded : (s t : List ℕ) (c : ℕ) → shifted r t ≡ Some s → Codes m t c → length s ≤ 4
+  form_coded : (s t : List ℕ) (c : ℕ) → in_form r t ≡ Some s → Codes m t c → length s ≤ 4
       → Codes (recoded r m) s c
-  form_coded s t c e p h = let g = shifted_reads a t s e in codes_from r m s c h g.0 (rw g.1 p)
+  form_coded s t c e p h = let g = in_form_reads a t s e in codes_from r m s c h g.0 (rw g.1 p)
 
   -- a pending string is a clean one and a byte that is held
   abbrev Split : List ℕ → List ℕ → Type 0
   Split s t =
       (p : List ℕ) × (h : ℕ) × (s ≡ p ++ h ∷ []) × (r.step false h ≡ Some Hold)
-      × (shifted r t ≡ Some p)
+      × (in_form r t ≡ Some p)
 
   pending_split : (s : List ℕ) → ends r false s ≡ pending → Split s (below r false s)
   pending_split [] e = cc
@@ -179,26 +179,26 @@ module _ {r : Recoding} (a : Agrees r) (m : Meaning) where
 
   -- an opening is a string that shifts an opening below, with or without one more held byte
   form_opens : (s : List ℕ) → IsOpening (recoded r m) s
-      → (length s ≤ 3) × ((t : List ℕ) × IsOpening m t × ((shifted r t ≡ Some s) ⊎ Split s t))
+      → (length s ≤ 3) × ((t : List ℕ) × IsOpening m t × ((in_form r t ≡ Some s) ⊎ Split s t))
   form_opens s o =
       let h = opens_parts r m s o in (h.0, (below r false s, h.2, go (ends r false s) refl h.1))
     where
       go : (e : End) → ends r false s ≡ e → is_broken e ≡ false
-          → (shifted r (below r false s) ≡ Some s) ⊎ Split s (below r false s)
-      go clean e k = inl (reads_shifted a s e)
+          → (in_form r (below r false s) ≡ Some s) ⊎ Split s (below r false s)
+      go clean e k = inl (reads_in_form a s e)
       go pending e k = inr (pending_split s e)
       go broken e k = absurd (both_ways true k refl)
 
   -- how such a string ends, and what it stands for
-  form_ends : (s t : List ℕ) → (shifted r t ≡ Some s) ⊎ Split s t
+  form_ends : (s t : List ℕ) → (in_form r t ≡ Some s) ⊎ Split s t
       → (is_broken (ends r false s) ≡ false) × (below r false s ≡ t)
-  form_ends s t (inl e) = let g = shifted_reads a t s e in (rw g.0, g.1)
+  form_ends s t (inl e) = let g = in_form_reads a t s e in (rw g.0, g.1)
   form_ends s t (inr i) =
-      let g = shifted_reads a t i.0 i.4 in
+      let g = in_form_reads a t i.0 i.4 in
       let j = join false i.0 false (i.1 ∷ []) g.0 in
       rw (i.2, j.0, j.1, i.3, append-nil) (refl, g.1)
 
-  form_opened : (s t : List ℕ) → length s ≤ 3 → IsOpening m t → (shifted r t ≡ Some s) ⊎ Split s t
+  form_opened : (s t : List ℕ) → length s ≤ 3 → IsOpening m t → (in_form r t ≡ Some s) ⊎ Split s t
       → IsOpening (recoded r m) s
   form_opened s t h o d = let g = form_ends s t d in opens_from r m s h g.0 (rw g.1 o)
 
@@ -236,16 +236,16 @@ module _ {r : Recoding} (a : Agrees r) (m : Meaning) where
         rw (e, w.0, w.1, reading_is l (below r false p) (Ok Open) h.2)
 
     long_cause : (s t rest : List ℕ) → length s ≡ 4 → IsOpening m t
-        → (shifted r t ≡ Some s) ⊎ Split s t → (recoded r m).causes (s ++ rest) ≡ own 36
+        → (in_form r t ≡ Some s) ⊎ Split s t → (recoded r m).causes (s ++ rest) ≡ own 36
     long_cause s t rest h o d =
         let g = form_ends s t d in
         let e : take 4 (s ++ rest) ≡ s = rw (← h) (take-append_seam s rest) in
         rw (e, g.0, g.1, reading_is l t (Ok Open) o)
 
-    below_cause : (s t rest : List ℕ) → length s ≤ 4 → Unreadable m t → shifted r t ≡ Some s
+    below_cause : (s t rest : List ℕ) → length s ≤ 4 → Unreadable m t → in_form r t ≡ Some s
         → (recoded r m).causes (s ++ rest) ≡ up (m.causes t)
     below_cause s t rest h b e =
-        let g = shifted_reads a t s e in
+        let g = in_form_reads a t s e in
         let more = below r false (take (4 - length s) rest) in
         let j : below r false (s ++ take (4 - length s) rest) ≡ t ++ more =
         (join false s false (take (4 - length s) rest) g.0).1 ∙ ap (λ z. z ++ more) g.1 in
@@ -261,8 +261,8 @@ module _ {r : Recoding} (a : Agrees r) (m : Meaning) where
     Fault p x =
         ((h : Bool) × (ends r false p ≡ cond h pending clean) × (r.step h x ≡ None))
         ⊎ (((length p ≡ 3) × (t : List ℕ) × IsOpening m t
-        × ((shifted r t ≡ Some (p ++ x ∷ [])) ⊎ Split (p ++ x ∷ []) t))
-        ⊎ ((t : List ℕ) × (shifted r t ≡ Some (p ++ x ∷ [])) × Unreadable m t))
+        × ((in_form r t ≡ Some (p ++ x ∷ [])) ⊎ Split (p ++ x ∷ []) t))
+        ⊎ ((t : List ℕ) × (in_form r t ≡ Some (p ++ x ∷ [])) × Unreadable m t))
 
     fault : (p : List ℕ) (x : ℕ) → IsOpening (recoded r m) p
         → Unreadable (recoded r m) (p ++ x ∷ []) → Fault p x
@@ -316,9 +316,9 @@ module _ {r : Recoding} (a : Agrees r) (m : Meaning) where
                   waits (rw ended refl) z,
                   below r false s,
                   z,
-                  inl (reads_shifted a s ended),
+                  inl (reads_in_form a s ended),
                 ))
-            decide false z = inr (inr (below r false s, reads_shifted a s ended, (bare, z)))
+            decide false z = inr (inr (below r false s, reads_in_form a s ended, (bare, z)))
 
         held : ends r false p ≡ clean → r.step false x ≡ Some Hold → Fault p x
         held e k =
@@ -345,21 +345,21 @@ module _ {r : Recoding} (a : Agrees r) (m : Meaning) where
 
 pub parity_meaning : (m : Meaning) → Laws m → ParityMeaning m
 parity_meaning m l = record {
-  codes = λ s c p. let h = form_codes parity_agrees m s c p in (h.0, shifted_parity h.0 s h.1, h.2);
+  codes = λ s c p. let h = form_codes parity_agrees m s c p in (h.0, in_form_parity h.0 s h.1, h.2);
   coded_by =
-      λ s t c h p. form_coded parity_agrees m s t c (parity_shifted t s h) p
+      λ s t c h p. form_coded parity_agrees m s t c (parity_in_form t s h) p
       (rw (h.1, length-map) (l.sized t c p).1);
   opens =
       λ s o. let h = form_opens parity_agrees m s o in (
         h.1.0,
-        elim h.1.2 [ inl e ↦ shifted_parity _ s e | inr i ↦ absurd (never_held i.1 i.3) ],
+        elim h.1.2 [ inl e ↦ in_form_parity _ s e | inr i ↦ absurd (never_held i.1 i.3) ],
         h.1.1,
       );
   opened_by =
       λ s t h o. form_opened parity_agrees m s t (rw (h.1, length-map) (l.opening_sized t o)) o
-      (inl (parity_shifted t s h));
+      (inl (parity_in_form t s h));
   odd_parity = λ p rest x o k. own_cause parity_agrees m l p rest x o (λ _. odd x k) (λ _. refl);
-  cause_below = λ s t rest h b d. below_cause parity_agrees m l s t rest h b (parity_shifted t s d);
+  cause_below = λ s t rest h b d. below_cause parity_agrees m l s t rest h b (parity_in_form t s d);
   causes_only = λ s b u.
       let f = first_fault (parity m) (parity_laws l).empty_opens s u in (
         f.0,
@@ -392,10 +392,10 @@ parity_meaning m l = record {
     kind p x h (inl (false, e, k)) = inl (wrong_odd x h k)
     kind p x h (inr (inl (three, t, o, inl e))) =
         let g : length (p ++ x ∷ []) ≡ length t =
-        ap length (shifted_parity t (p ++ x ∷ []) e).1 ∙ length-map t in_parity in
+        ap length (in_form_parity t (p ++ x ∷ []) e).1 ∙ length-map t in_parity in
         absurd (omega (arith, l.opening_sized t o, length-append p (x ∷ [])))
     kind p x h (inr (inl (three, t, o, inr i))) = absurd (never_held i.1 i.3)
-    kind p x h (inr (inr (t, e, u))) = inr (t, shifted_parity t (p ++ x ∷ []) e, u)
+    kind p x h (inr (inr (t, e, u))) = inr (t, in_form_parity t (p ++ x ∷ []) e, u)
 
 held_is : (x : ℕ) → shift_step false x ≡ Some Hold → x ≡ 0x19
 held_is x e = grind (arith, nat_tests)
@@ -410,25 +410,25 @@ no_low x h = grind (arith, nat_tests)
 pub shift_meaning : (m : Meaning) → Laws m → ShiftMeaning m
 shift_meaning m l = record {
   codes =
-      λ s c p. let h = form_codes shift_agrees m s c p in (h.0, shifted_shifts h.0 s h.1, h.2, h.3);
-  coded_by = λ s t c h p k. form_coded shift_agrees m s t c (shifts_shifted t s h) p k;
+      λ s c p. let h = form_codes shift_agrees m s c p in (h.0, in_form_shifts h.0 s h.1, h.2, h.3);
+  coded_by = λ s t c h p k. form_coded shift_agrees m s t c (shifts_in_form t s h) p k;
   opens =
       λ s o. let h = form_opens shift_agrees m s o in (h.0, (h.1.0, h.1.1, as_words s h.1.0 h.1.2));
   opened_by = λ s t h o d. form_opened shift_agrees m s t h o (as_form s t d);
   not_shifted =
       λ p rest x o d. own_cause shift_agrees m l p rest x o (cannot false p x d) (cannot' p x d);
   too_long = λ s t rest h o d. long_cause shift_agrees m l s t rest h o (as_form s t d);
-  cause_below = λ s t rest h b d. below_cause shift_agrees m l s t rest h b (shifts_shifted t s d);
+  cause_below = λ s t rest h b d. below_cause shift_agrees m l s t rest h b (shifts_in_form t s d);
   causes_only =
       λ s u. let f = first_fault (shift m) (shift_laws l).empty_opens s u in
       (f.0, f.1, f.2, f.3, f.4, kind f.0 f.2 (fault shift_agrees m l f.0 f.2 f.4 f.5));
 }
   where
-    as_words : (s t : List ℕ) → (shifted shift_bytes t ≡ Some s) ⊎ Split shift_agrees m s t
+    as_words : (s t : List ℕ) → (in_form shift_bytes t ≡ Some s) ⊎ Split shift_agrees m s t
         → BeginsShifted t s
-    as_words s t (inl e) = inl (shifted_shifts t s e)
+    as_words s t (inl e) = inl (in_form_shifts t s e)
     as_words s t (inr i) =
-        inr (i.0, i.2 ∙ ap (λ x. i.0 ++ x ∷ []) (held_is i.1 i.3), shifted_shifts t i.0 i.4)
+        inr (i.0, i.2 ∙ ap (λ x. i.0 ++ x ∷ []) (held_is i.1 i.3), in_form_shifts t i.0 i.4)
 
     wrong_high : (x : ℕ) → shift_step false x ≡ None → 0x80 ≤ x
     wrong_high x e = grind (arith, nat_tests)
@@ -449,24 +449,24 @@ shift_meaning m l = record {
             i.0,
             below shift_bytes false p,
             i.2 ∙ ap (λ y. i.0 ++ y ∷ []) (held_is i.1 i.3),
-            shifted_shifts (below shift_bytes false p) i.0 i.4,
+            in_form_shifts (below shift_bytes false p) i.0 i.4,
             h,
           ))
       | inr h ↦ inl (inl h)
     ]
     kind p x (inr (inl (three, t, o, d))) = inr (inl (three, t, o, as_words (p ++ x ∷ []) t d))
-    kind p x (inr (inr (t, e, u))) = inr (inr (t, shifted_shifts t (p ++ x ∷ []) e, u))
+    kind p x (inr (inr (t, e, u))) = inr (inr (t, in_form_shifts t (p ++ x ∷ []) e, u))
 
     as_form : (s t : List ℕ) → BeginsShifted t s
-        → (shifted shift_bytes t ≡ Some s) ⊎ Split shift_agrees m s t
-    as_form s t (inl h) = inl (shifts_shifted t s h)
-    as_form s t (inr h) = inr (h.0, 0x19, h.1, refl, shifts_shifted t h.0 h.2)
+        → (in_form shift_bytes t ≡ Some s) ⊎ Split shift_agrees m s t
+    as_form s t (inl h) = inl (shifts_in_form t s h)
+    as_form s t (inr h) = inr (h.0, 0x19, h.1, refl, shifts_in_form t h.0 h.2)
 
     cannot : (b : Bool) (p : List ℕ) (x : ℕ) → CannotFollow p x → ends shift_bytes false p ≡ clean
         → shift_step false x ≡ None
     cannot b p x (inl h) e = no_high false x h
     cannot b p x (inr h) e =
-        let g = shifted_reads shift_agrees h.1 h.0 (shifts_shifted h.1 h.0 h.3) in
+        let g = in_form_reads shift_agrees h.1 h.0 (shifts_in_form h.1 h.0 h.3) in
         let k : pending ≡ clean = sym (join shift_agrees m false h.0 false (0x19 ∷ []) g.0).0
         ∙ ap (ends shift_bytes false) (sym h.2) ∙ e in
         cc

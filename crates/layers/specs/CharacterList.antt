@@ -22,6 +22,7 @@ rises_at xs i =
     nat_le (slice_index xs i) LAST_CHARACTER &&
     (i == 0 || nat_lt (slice_index xs (i - 1)) (slice_index xs i))
 
+-- the numbers are code points in increasing order
 abbrev pub Rising : List ℕ → Type 0
 Rising xs = (i : ℕ) → i < length xs → rises_at xs i ≡ true
 

@@ -23,6 +23,7 @@ pub record Recoding : Type 0 where
   pub form : ℕ → Option WrittenByte
   pub fault : ℕ
 
+-- what a step puts in front of the bytes below, and how the string goes on after it
 abbrev pub put : Option Move → (Bool → List ℕ) → List ℕ
 put (Some (Emit b)) f = b ∷ f false
 put (Some Hold) f = f true
@@ -42,16 +43,17 @@ abbrev pub ends : Recoding → Bool → List ℕ → End
 ends r p [] = cond p pending clean
 ends r p (x ∷ s) = stop (r.step p x) (λ q. ends r q s)
 
+-- a byte in its form before a string in its form, if both have one
 abbrev pub before : Option WrittenByte → Option (List ℕ) → Option (List ℕ)
 before f None = None
 before (Some (One x)) (Some s) = Some (x ∷ s)
 before (Some (Two x y)) (Some s) = Some (x ∷ y ∷ s)
 before None (Some s) = None
 
--- a string below as it is written here
-abbrev pub shifted : Recoding → List ℕ → Option (List ℕ)
-shifted r [] = Some []
-shifted r (b ∷ t) = before (r.form b) (shifted r t)
+-- a string below as it is written here, if each of its bytes can be
+abbrev pub in_form : Recoding → List ℕ → Option (List ℕ)
+in_form r [] = Some []
+in_form r (b ∷ t) = before (r.form b) (in_form r t)
 
 abbrev pub is_clean : End → Bool
 is_clean clean = true
@@ -63,26 +65,30 @@ is_broken clean = false
 is_broken pending = false
 is_broken broken = true
 
+-- a string, if it has at most four bytes
 abbrev pub at_most_four : Option (List ℕ) → Option (List ℕ)
 at_most_four None = None
 at_most_four (Some s) = cond (nat_le (length s) 4) (Some s) None
 
-abbrev pub shift_of : Recoding → Option (List ℕ) → Option (List ℕ)
-shift_of r None = None
-shift_of r (Some t) = at_most_four (shifted r t)
+-- a coding below as a coding here
+abbrev pub coding_of : Recoding → Option (List ℕ) → Option (List ℕ)
+coding_of r None = None
+coding_of r (Some t) = at_most_four (in_form r t)
 
+-- the cause of four bytes or fewer: the one from below, or that of a wrong byte, or still open
 abbrev pub scan_cause : Recoding → Meaning → List ℕ → SetRefusal
 scan_cause r m s =
     over (reading m (below r false s))
     (own (cond (is_broken (ends r false s)) r.fault (number_of TooLong)))
 
+-- the set below, its bytes in that form
 abbrev pub recoded : Recoding → Meaning → Meaning
 recoded r m = record {
   codings = record {
     character =
         λ s. cond (nat_le (length s) 4 && is_clean (ends r false s))
         (m.codings.character (below r false s)) None;
-    string = λ c. shift_of r (m.codings.string c);
+    string = λ c. coding_of r (m.codings.string c);
   };
   openings =
       λ s. nat_le (length s) 3 && (not (is_broken (ends r false s)) && m.openings

@@ -7,6 +7,7 @@ use Rattle.layers.specs.declared.recoding.moves.WrittenByte.TheVariants.{One, Tw
 use Rattle.layers.specs.declared.recoded.scan.Scan.{Scan}
 use Rattle.layers.specs.Recoding.{Recoding, below, ends, is_broken}
 
+-- found says what the first four bytes of s stand for below, and whether a byte broke them off
 pub record Scans (r : Recoding) (s : List ℕ) (found : Scan) : Type 0 where
   pub stands : found.below ≡ below r false (take 4 s)
   pub breaks : found.broken ≡ is_broken (ends r false (take 4 s))

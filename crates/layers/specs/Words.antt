@@ -29,12 +29,19 @@ InParity t s = AreSevenBit t × (s ≡ map in_parity t)
 abbrev pub HasOddParity : ℕ → Type 0
 HasOddParity x = count_ones x % 2 ≡ 1
 
+-- b is under 80 and no 19: it stays
+abbrev pub Stays : (b : ℕ) → (rest s : List ℕ) → Type 0
+Stays b rest s = (b < 0x80) × (b ≢ 0x19) × (s ≡ b ∷ rest)
+
+-- b is a byte from A0 up: it becomes 19 and that byte less 80
+abbrev pub IsShifted : (b : ℕ) → (rest s : List ℕ) → Type 0
+IsShifted b rest s = (0xa0 ≤ b) × (b < 0x100) × (s ≡ 0x19 ∷ (b - 0x80) ∷ rest)
+
 -- s is t shifted
 abbrev pub Shifts : List ℕ → List ℕ → Type 0
 Shifts [] s = s ≡ []
 Shifts (b ∷ t) s =
-    (rest : List ℕ) × Shifts t rest × (((b < 0x80) × (b ≢ 0x19) × (s ≡ b ∷ rest))
-    ⊎ ((0xa0 ≤ b) × (b < 0x100) × (s ≡ 0x19 ∷ (b - 0x80) ∷ rest)))
+    (rest : List ℕ) × Shifts t rest × (Stays b rest s ⊎ IsShifted b rest s)
 
 -- s is t shifted, with or without one more 19
 abbrev pub BeginsShifted : List ℕ → List ℕ → Type 0
@@ -51,7 +58,8 @@ OpenAtFour m p x =
     (length p ≡ 3) × (t : List ℕ) × IsOpening m t × BeginsShifted t (p ++ x ∷ [])
 
 -- p and x are, in a form, a string that has a cause below
-abbrev pub FailsBelow : Meaning → (InForm : List ℕ → List ℕ → Type 0) → List ℕ → ℕ → Type 0
+abbrev pub FailsBelow : Meaning → (InForm : List ℕ → List ℕ → Type 0) → List ℕ → ℕ
+    → Type 0
 FailsBelow m InForm p x = (t : List ℕ) × InForm t (p ++ x ∷ []) × Unreadable m t
 
 -- a character that is not on the list stands in front
@@ -63,6 +71,7 @@ abbrev pub FailsAt : Meaning → (List ℕ → ℕ → Type 0) → List ℕ → 
 FailsAt m Fault s =
     (p rest : List ℕ) × (x : ℕ) × (s ≡ p ++ x ∷ rest) × IsOpening m p × Fault p x
 
+-- what the parity of a set means
 pub record ParityMeaning (m : Meaning) : Type 0 where
   pub codes : (s : List ℕ) (c : ℕ) → Codes (parity m) s c
       → (t : List ℕ) × InParity t s × Codes m t c
@@ -80,6 +89,7 @@ pub record ParityMeaning (m : Meaning) : Type 0 where
   pub causes_only : (s : List ℕ) → AreBytes s → Unreadable (parity m) s
       → FailsAt (parity m) (λ p x. HasOddParity x ⊎ FailsBelow m InParity p x) s
 
+-- what the shift of a set means
 pub record ShiftMeaning (m : Meaning) : Type 0 where
   pub codes : (s : List ℕ) (c : ℕ) → Codes (shift m) s c
       → (t : List ℕ) × Shifts t s × Codes m t c × (length s ≤ 4)
@@ -103,6 +113,7 @@ pub record ShiftMeaning (m : Meaning) : Type 0 where
       → FailsAt (shift m)
       (λ p x. CannotFollow p x ⊎ (OpenAtFour m p x ⊎ FailsBelow m Shifts p x)) s
 
+-- what the subrepertoire of a set by a list means
 pub record SubMeaning (ds : List ℕ) (m : Meaning) : Type 0 where
   pub codes : (s : List ℕ) (c : ℕ) → Codes (sub ds m) s c
       → Codes m s c × (on_list ds c ≡ true)
@@ -124,6 +135,7 @@ pub record Added (chosen : List Bool) (m : Meaning) (c : ℕ) : Type 0 where
   pub unread : Unreadable m (c ∷ [])
   pub unwritten : m.codings.string c ≡ None
 
+-- what a set with the chosen controls means
 pub record ControlsMeaning (chosen : List Bool) (m : Meaning) : Type 0 where
   pub codes : (s : List ℕ) (c : ℕ) → Codes (controls chosen m) s c
       → Codes m s c ⊎ ((s ≡ c ∷ []) × Added chosen m c)

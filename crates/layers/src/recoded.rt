@@ -1,7 +1,7 @@
 //! A set under another form of its bytes.
 ghost use Rattle.std.specs.Prelude.{◌≡◌, ◌≤◌, length};
 ghost use Rattle.layers.specs.Meanings.{meaning_of_recoded};
-ghost use Rattle.layers.specs.Recoding.{at_most_four, shifted};
+ghost use Rattle.layers.specs.Recoding.{at_most_four, in_form};
 ghost use Rattle.layers.specs.Scans.{Scans, form_size, size_of, extended};
 ghost use Rattle.layers.specs.Laws.Recode.{recoded_laws};
 
@@ -84,7 +84,7 @@ fn append(front: Front, form: WrittenByte) -> Option<Front>
 
 // The bytes below as they are written here, if they take at most four.
 fn recode<F: ByteForm>(form: &F, bytes: &[u8]) -> Option<Front>
-    ensures { result ≡ at_most_four (shifted (F.recoding form.now) bytes.now) }
+    ensures { result ≡ at_most_four (in_form (F.recoding form.now) bytes.now) }
 {
     let mut written = Front::empty();
     for byte in bytes {

@@ -19,8 +19,8 @@ pub type Parity<S> = Recoded<EvenParity, S>;
 /// A set in seven bits, by single shifts.
 pub type Shift<S> = Recoded<SingleShift, S>;
 
-/// Puts even parity on a set: each byte below 80 of a coding gets a top bit that makes its number
-/// of ones even. Other bytes are refused with 34.
+/// Puts even parity on a set: each byte of a coding, below 80, gets a top bit that makes its number
+/// of ones even. A byte with an odd number of ones is refused with 34.
 pub fn with_parity<S: CharacterSet>(below: S) -> Parity<S>
     ensures on { result.below ≡ below }
     ensures is_parity { set_of ⟦<Parity<S> as CharacterSet>⟧ result

@@ -9,7 +9,7 @@ use forms::FormSet;
 use roll::Form;
 use std::env;
 use std::io::{Read, Write};
-use transcript::{FaultAt, Told, transcribe};
+use transcript::{Failure, FaultAt, Told, Transcription, transcribe};
 
 const USAGE: &str =
     "usage: recode SOURCE TARGET < TEXT > TEXT, each a form from 1 to 7 (docs/ROLLS.md lists them)";
@@ -19,6 +19,14 @@ fn set_by_number(rt: &HostRuntime, word: &str) -> anyhow::Result<FormSet> {
     let number = word.parse::<u8>().ok().context(USAGE)?;
     let form = Form::try_from(number).ok().context(USAGE)?;
     Ok(FormSet::of(rt.alloc(), form)?)
+}
+
+// What is said of a text that is not transcribed to its end.
+fn said(failure: Failure) -> anyhow::Error {
+    match failure {
+        Failure::Faulted(at) => refused(at),
+        wanting => wanting.into(),
+    }
 }
 
 // What is said of a fault.
@@ -54,8 +62,8 @@ fn main(rt: HostRuntime) -> anyhow::Result<()> {
     let target = set_by_number(&rt, target.as_str())?;
     let mut input = Vec::new(heap);
     rt.stdin().read_to_end(&mut input)?;
-    let done = transcribe(heap, source, target, &input)?;
+    let mut done = Transcription::empty(heap);
+    let outcome = transcribe(source, target, &input, &mut done);
     rt.stdout().write_all(&done.text)?;
-    done.outcome.map_err(refused)?;
-    Ok(())
+    Ok(outcome.map_err(said)?)
 }

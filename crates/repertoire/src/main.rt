@@ -1,11 +1,12 @@
-// Prints all that ISO/IEC 6937 reads in one and two bytes, and all that it writes, with equal
-// neighbours on one line.
+//! Prints all that ISO/IEC 6937 reads in one and two bytes, and all that it writes, with equal
+//! neighbours on one line.
 #![tactic(auto)]
 
 use charset::{CharacterSet, Coding, Reading, SetRefusal};
 use sets::Iso6937;
 use std::{fmt, io};
 
+// An answer of `read`, shown as `U+00E9 2`, `open` or `refused 32 0`.
 #[derive(Clone, Copy, PartialEq)]
 struct ShownReading(Result<Reading, SetRefusal>);
 
@@ -19,6 +20,7 @@ impl fmt::Display for ShownReading {
     }
 }
 
+// A coding, shown as its bytes, each behind a space.
 #[derive(Clone, Copy)]
 struct Bytes(Coding);
 
@@ -31,11 +33,13 @@ impl fmt::Display for Bytes {
     }
 }
 
+// What a byte alone is read as.
 fn read_one(rt: &HostRuntime, byte: u8) -> io::Result<()> {
     let answer = ShownReading(Iso6937.read(&[byte]));
     println!(rt; "{byte:02X} {answer}")
 }
 
+// What each two bytes with this first one are read as.
 fn read_two(rt: &HostRuntime, first: u8) -> io::Result<()> {
     let answers = (0..=255u8)
         .map(|second| (second, ShownReading(Iso6937.read(&[first, second]))))
@@ -48,6 +52,7 @@ fn read_two(rt: &HostRuntime, first: u8) -> io::Result<()> {
     Ok(())
 }
 
+// How a character is written, if it is.
 fn write_one(rt: &HostRuntime, number: u32) -> io::Result<()> {
     match Iso6937.write(number).map(Bytes) {
         Some(bytes) => println!(rt; "U+{number:04X}{bytes}"),

@@ -1,6 +1,6 @@
 -- Every character of every form has a coding in UTF-8.
-use Rattle.std.proofs.Common.{◌≡◌, ℕ, true, List, [], ◌∷◌, take, drop, IfOk, Some, Ok, Err, Option}
-use Rattle.std.proofs.Common.{Result, sym, refl, ◌∙◌, subst, inl, inr, arith}
+use Rattle.std.proofs.Common.{◌≡◌, ℕ, true, List, [], ◌∷◌, take, drop, Some, None, Ok, Err, Option}
+use Rattle.std.proofs.Common.{Result, length, sym, refl, ◌∙◌, subst, inl, inr, arith}
 use Rattle.std.proofs.lemmas.Option.{none-some}
 use Rattle.charset.specs.Meaning.{Meaning, Codes, Laws}
 use Rattle.sets.specs.Iso6937.{iso6937}
@@ -21,8 +21,8 @@ use Rattle.conversion.specs.declared.Fault.{Fault}
 use Rattle.conversion.specs.declared.Fault.TheVariants.{Unwritten}
 use Rattle.conversion.specs.Transcribed.{Ends}
 use Rattle.transcript.specs.declared.transcription.Failure.{Failure}
-use Rattle.transcript.specs.declared.transcription.Transcription.{Transcription}
-use Rattle.transcript.specs.Carried.{fault_in, offset_in, Transcribes}
+use Rattle.transcript.specs.declared.transcription.Failure.TheVariants.{NoMemory, TooLong, Faulted}
+use Rattle.transcript.specs.Carried.{fault_told_in, Transcribes}
 use Rattle.roll.specs.declared.page.Form.{Form}
 use Rattle.roll.specs.declared.page.Form.TheVariants.{EightBit, SevenBit, SevenBitParity, Latin10}
 use Rattle.roll.specs.declared.page.Form.TheVariants.{Sami, Unicode, Basic}
@@ -95,10 +95,13 @@ ends_written m all rest stop h c e =
     let k : Ends m utf8 rest (Some (Unwritten c)) = subst (Ends m utf8 rest) e h in
     none-some _ (sym k.2 ∙ (all (take k.0 rest) c k.1.1).1)
 
-pub always_written : (f : Form) (bytes : List ℕ) (r : Result Transcription Failure)
-    → IfOk r (λ p. Transcribes (form_set f) utf8 bytes p)
-    → IfOk r (λ p. AlwaysWritten (fault_in p.outcome))
-always_written f bytes (Ok p) h =
-    ends_written (form_set f) (form_written f) (drop (offset_in bytes p.outcome) bytes)
-    (fault_in p.outcome) h.the_transcription.transcribed.ends
-always_written f bytes (Err e) h = tt
+pub always_written : (f : Form) (bytes text : List ℕ) (n : ℕ) (r : Result (Unit {0}) Failure)
+    → Transcribes (form_set f) utf8 bytes text n r → AlwaysWritten (fault_told_in r)
+always_written f bytes text n (Ok u) h =
+    ends_written (form_set f) (form_written f) (drop (length bytes) bytes) None
+    h.the_transcription.transcribed.ends
+always_written f bytes text n (Err NoMemory) h = λ c e. cc
+always_written f bytes text n (Err TooLong) h = λ c e. cc
+always_written f bytes text n (Err (Faulted p)) h =
+    ends_written (form_set f) (form_written f) (drop p.offset bytes) (Some p.fault)
+    h.the_transcription.transcribed.ends

@@ -1,5 +1,5 @@
 -- The number that each fault of a roll is told by, and the values that come with it.
-use Rattle.transcript.specs.Told.{alone, with_fault, fault_number}
+use Rattle.transcript.specs.Told.{alone, told_fault}
 use Rattle.roll.specs.Told.{refusal_told}
 use Rattle.report.specs.declared.fault.RollFault.{RollFault}
 use Rattle.report.specs.declared.fault.RollFault.TheVariants.{Refused, Faulted}
@@ -9,10 +9,4 @@ use Rattle.report.specs.declared.fault.RollTold.{RollTold}
 abbrev pub fault_told : RollFault → RollTold
 fault_told (Refused e) =
     record { told = alone (refusal_told e).number; entry = (refusal_told e).entry; page = 0 }
-fault_told (Faulted n f) =
-    record {
-      told = with_fault (fault_number f.fault) 0 f.fault f.offset f.done;
-      entry = 0;
-      page =
-          n;
-    }
+fault_told (Faulted n f) = record { told = told_fault f; entry = 0; page = n }

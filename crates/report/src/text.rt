@@ -1,82 +1,112 @@
-// The text of a page, by its form.
-ghost use Rattle.std.specs.Prelude.{◌≡◌, IfOk};
+//! The text of a page, by its form.
+ghost use Rattle.std.specs.Prelude.{◌≡◌, [], IfOk};
 ghost use Rattle.transcript.specs.Failures.{IsTooLongOrWanting};
 ghost use Rattle.sets.specs.Utf8.{utf8};
-ghost use Rattle.transcript.specs.Carried.{fault_in, Transcribes};
+ghost use Rattle.transcript.specs.Carried.{fault_told_in, TranscribesInto};
 ghost use Rattle.forms.specs.FormSets.{form_set};
-ghost use Rattle.report.specs.Texts.{AlwaysWritten, on_page, page_form, IsEmptyText};
-ghost use Rattle.report.specs.Texts.{IsTextOf};
+ghost use Rattle.report.specs.Texts.{AlwaysWritten, page_failure, page_form, IsTextOf};
+ghost use Rattle.report.specs.Texts.{TranscribesPage};
 
 use crate::fault::RollFault;
 use forms::FormSet;
 use roll::{Form, Page, RollRefusal};
 use sets::Utf8;
 use std::alloc::{AllocError, Global};
-use transcript::{Failure, FaultAt, Transcription, transcribe};
+use transcript::{Failure, Transcription, transcribe};
 
-// Bytes of a form, in UTF-8.
-pub fn form_text(heap: Global, form: Form, bytes: &[u8]) -> Result<Transcription, Failure>
-    ensures text { IfOk result (λ p. Transcribes (form_set form) utf8 bytes.now p) }
+/// Transcribes bytes of a form into UTF-8, up to their end or to a fault; the text before is lost.
+pub fn form_text(
+    heap: Global,
+    form: Form,
+    bytes: &[u8],
+    into: &mut Transcription,
+) -> Result<(), Failure>
+    ensures text { TranscribesInto (form_set form) utf8 bytes.now into.new result }
     ensures too_long { IsTooLongOrWanting bytes.now result }
-    ensures always_written { IfOk result (λ p. AlwaysWritten (fault_in p.outcome)) }
+    ensures always_written { AlwaysWritten (fault_told_in result) }
 {
     let set = FormSet::of(heap, form)?;
-    transcribe(heap, set, Utf8, bytes)
+    transcribe(set, Utf8, bytes, into)
 }
 
-// The text of a page up to its end or a fault, its form, which a picture has not, and how many
-// characters it has.
-#[derive(Drop)]
-pub struct PageText {
-    pub form: Option<Form>,
-    pub text: Vec<u8>,
-    pub characters: u64,
-    pub outcome: Result<(), RollFault>,
+// Why a page is not transcribed to its end.
+enum PageFailure {
+    NoMemory,
+    Fault(RollFault),
 }
 
-// The transcript's fault as the roll's.
-fn on_page(page: u32, outcome: Result<(), FaultAt>) -> Result<(), RollFault>
-    ensures { result ≡ on_page page outcome }
-{
-    outcome.map_err(|fault| (page, fault))?;
-    Ok(())
-}
+// The failure of the text of a page, with the page number. A page that is longer than a source may
+// be, which no roll can hold, is refused as a roll of that size is.
+impl From<(u32, Failure)> for PageFailure {
+    ghost from_gives = { λ e r. r ≡ page_failure e.0 e.1 };
 
-impl PageText {
-    // A page with no text.
-    fn empty(heap: Global, form: Option<Form>, outcome: Result<(), RollFault>) -> PageText
-        ensures { IsEmptyText form outcome result }
-    {
-        PageText {
-            form,
-            text: Vec::new(heap),
-            characters: 0,
-            outcome,
+    fn from((page, failure): (u32, Failure)) -> PageFailure {
+        match failure {
+            Failure::NoMemory => PageFailure::NoMemory,
+            Failure::TooLong => PageFailure::Fault(RollRefusal::WrongSize.into()),
+            Failure::Faulted(fault) => PageFailure::Fault((page, fault).into()),
         }
     }
 }
 
-// The text of a page; a fault carries `number`, the page's number from 1. A page that is longer
-// than a source may be, which no roll can hold, is refused as a roll of that size is.
+// A page into UTF-8, into a place where no text is. A picture has none.
+fn transcribe_page(
+    heap: Global,
+    number: u32,
+    page: &Page,
+    into: &mut Transcription,
+) -> Result<(), PageFailure>
+    requires no_text { into.old.text.items ≡ [] }
+    requires no_characters { into.old.characters ≡ 0 }
+    ensures { TranscribesPage number page.now into.new result }
+{
+    let Page::Text { form, part, .. } = *page else {
+        return Ok(());
+    };
+    form_text(heap, form, part, into).map_err(|failure| (number, failure))?;
+    Ok(())
+}
+
+/// The text of a page up to its end or a fault.
+#[derive(Drop)]
+pub struct PageText {
+    /// The form of the page; `None` for a picture.
+    pub form: Option<Form>,
+    /// The text, in UTF-8.
+    pub text: Vec<u8>,
+    /// How many characters the text has.
+    pub characters: u64,
+    /// The fault, where the page is not transcribed to its end.
+    pub outcome: Result<(), RollFault>,
+}
+
+// The form of a page; a picture has none.
+fn page_form(page: &Page) -> Option<Form>
+    ensures { result ≡ page_form page.now }
+{
+    match *page {
+        Page::Text { form, .. } => Some(form),
+        Page::Picture { .. } => None,
+    }
+}
+
+/// The text of a page; a fault carries `number`, the page's number from 1. Fails only where memory
+/// is wanting. A page that is longer than a source may be, which no roll can hold, is refused as a
+/// roll of that size is.
 pub fn page_text(heap: Global, number: u32, page: &Page) -> Result<PageText, AllocError>
     ensures form { IfOk result (λ t. t.form ≡ page_form page.now) }
     ensures text { IfOk result (IsTextOf number page.now) }
 {
-    let Page::Text { form, part, .. } = *page else {
-        return Ok(PageText::empty(heap, None, Ok(())));
+    let mut read = Transcription::empty(heap);
+    let outcome = match transcribe_page(heap, number, page, &mut read) {
+        Ok(()) => Ok(()),
+        Err(PageFailure::Fault(fault)) => Err(fault),
+        Err(PageFailure::NoMemory) => return Err(AllocError),
     };
-    match form_text(heap, form, part) {
-        Ok(read) => Ok(PageText {
-            form: Some(form),
-            text: read.text,
-            characters: read.characters,
-            outcome: on_page(number, read.outcome),
-        }),
-        Err(Failure::TooLong) => Ok(PageText::empty(
-            heap,
-            Some(form),
-            Err(RollRefusal::WrongSize.into()),
-        )),
-        Err(Failure::NoMemory) => Err(AllocError),
-    }
+    Ok(PageText {
+        form: page_form(page),
+        text: read.text,
+        characters: read.characters,
+        outcome,
+    })
 }

@@ -8,11 +8,11 @@ use charset::SetRefusal;
 /// depth is 0.
 #[derive(Clone, Copy, PartialEq, Eq, Debug)]
 pub enum Cause {
-    /// The first byte is no position in use: the single-byte sets and ISO/IEC 6937.
+    /// ISO/IEC 6937 and the single-byte sets: the first byte is no position in use.
     NotInUse = 31,
-    /// A diacritic stands before a byte with which it makes no pair of ISO/IEC 6937:1994, Table 4.
+    /// ISO/IEC 6937: a diacritic stands before a byte with which it makes no pair (Table 4).
     NoPair = 32,
-    /// The bytes begin no UTF-8 character (RFC 3629, section 4).
+    /// UTF-8: the bytes begin no character (RFC 3629, section 4).
     Malformed = 33,
 }
 

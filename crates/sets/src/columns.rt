@@ -23,8 +23,7 @@ impl CodeTable {
         (character != 0).then_some(character)
     }
 
-    // The first byte from A0 on that has the character. `0xA0..=0xFF` takes one and a half times
-    // the instructions.
+    // The first byte from A0 on that codes a code point.
     fn upper_of(&self, character: u32) -> Option<u8>
         ensures { result ≡ upper_of self.now.columns character }
     {

@@ -23,7 +23,7 @@ spelt_size l (c ∷ cs) s p =
     (omega (arith, one.0, more.0, size), omega (arith, one.1, more.1, size))
 
 module _ (S T : Meaning) (l : Laws S) (k : Laws T) (s : Snapshot) (sector out after : List ℕ)
-    (run : Run) (h : Runs S T (s.held ++ sector) out after run) where
+    (run : Run) (end : End) (h : Runs S T (s.held ++ sector) out after run end) where
   rest_is : drop run.read (s.held ++ sector) ≡ h.reaches.rest
   rest_is = rw (h.read, h.reaches.leads.begins) (drop-append_seam h.source h.reaches.rest)
 
@@ -31,7 +31,7 @@ module _ (S T : Meaning) (l : Laws S) (k : Laws T) (s : Snapshot) (sector out af
       → Stops S T rest used room e → length rest ≤ 3
   opening_short e f rest used room st = l.opening_sized rest (subst (Stops S T rest used room) f st)
 
-  pub possible : limits s.taken sector out ≡ None → Possible s sector run
+  pub possible : limits s.taken sector out ≡ None → Possible s sector run end
   possible e =
       let from = spelt_size l h.chars h.source h.reaches.leads.from in
       let into = spelt_size k h.chars h.target h.reaches.leads.into in
@@ -45,12 +45,12 @@ module _ (S T : Meaning) (l : Laws S) (k : Laws T) (s : Snapshot) (sector out af
         one_written_each = omega (arith, into.0);
         four_written_each = omega (arith, into.1);
         opening =
-            λ o. rw rest_is (opening_short run.end o h.reaches.rest (length h.target) (length out)
+            λ o. rw rest_is (opening_short end o h.reaches.rest (length h.target) (length out)
             h.reaches.stops);
         limit = grind (arith, nat_tests);
       }
 
-  worked : (r : OfferAnswer) (t : Snapshot) → Settles s sector run r t
+  worked : (r : OfferAnswer) (t : Snapshot) → Settles s sector run end r t
       → Worked S T s sector out r after t
   worked r t st =
       let done = st.by_lists h.chars h.source h.target h.characters h.read h.written in
@@ -58,7 +58,7 @@ module _ (S T : Meaning) (l : Laws S) (k : Laws T) (s : Snapshot) (sector out af
         chars = h.chars;
         source = h.source;
         target = h.target;
-        end = run.end;
+        end = end;
         reaches = h.reaches;
         answer = done.0;
         left = h.left;
@@ -66,6 +66,6 @@ module _ (S T : Meaning) (l : Laws S) (k : Laws T) (s : Snapshot) (sector out af
       }
 
   pub offered_open : limits s.taken sector out ≡ None → (r : OfferAnswer) (t : Snapshot)
-      → Settles s sector run r t → OfferedIf (limits s.taken sector out) S T s sector out r after t
+      → Settles s sector run end r t → OfferedIf (limits s.taken sector out) S T s sector out r after t
   offered_open e r t st =
       subst (λ o. OfferedIf o S T s sector out r after t) (sym e) (worked r t st)

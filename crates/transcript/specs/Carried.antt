@@ -9,6 +9,8 @@ use Rattle.transcript.specs.declared.answers.Refusal.{Refusal}
 use Rattle.transcript.specs.declared.answers.Refusal.TheVariants as refusal
 use Rattle.transcript.specs.declared.answers.State.TheVariants as state
 use Rattle.transcript.specs.declared.answers.Status.{Status}
+use Rattle.transcript.specs.declared.transcription.Failure.{Failure}
+use Rattle.transcript.specs.declared.transcription.Failure.TheVariants.{NoMemory, TooLong, Faulted}
 use Rattle.transcript.specs.declared.transcription.Transcription.{Transcription}
 use Rattle.conversion.specs.Transcribed.{TheTranscription}
 use Rattle.transcript.specs.Calls.{Snapshot, OfferAnswer}
@@ -99,5 +101,23 @@ pub record IsTranscription (S T : Meaning) (bytes text : List ℕ) (characters :
       (fault_in o)
   pub carried_out : CarriedOut S T bytes text characters o
 
-abbrev pub Transcribes : Meaning → Meaning → List ℕ → Transcription → Type 0
-Transcribes S T bytes p = IsTranscription S T bytes (vec_items p.text) p.characters p.outcome
+-- the answer to a text: all of it or a fault is told, with what was transcribed; a text that is too
+-- long is not begun; and where memory is wanting nothing is said of what was
+abbrev pub Transcribes : Meaning → Meaning → (bytes text : List ℕ) → (characters : ℕ)
+    → Result (Unit {0}) Failure → Type 0
+Transcribes S T bytes text characters (Ok u) = IsTranscription S T bytes text characters (Ok tt)
+Transcribes S T bytes text characters (Err NoMemory) = Unit {0}
+Transcribes S T bytes text characters (Err TooLong) = (text ≡ []) × (characters ≡ 0)
+Transcribes S T bytes text characters (Err (Faulted f)) =
+    IsTranscription S T bytes text characters (Err f)
+
+abbrev pub TranscribesInto : Meaning → Meaning → List ℕ → Transcription
+    → Result (Unit {0}) Failure → Type 0
+TranscribesInto S T bytes p r = Transcribes S T bytes (vec_items p.text) p.characters r
+
+-- the fault that an answer tells
+abbrev pub fault_told_in : Result (Unit {0}) Failure → Option Fault
+fault_told_in (Ok u) = None
+fault_told_in (Err NoMemory) = None
+fault_told_in (Err TooLong) = None
+fault_told_in (Err (Faulted f)) = Some f.fault

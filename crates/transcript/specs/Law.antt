@@ -13,7 +13,7 @@ use Rattle.transcript.specs.declared.answers.State.{State}
 use Rattle.transcript.specs.declared.answers.State.TheVariants.{Open, Faulted}
 use Rattle.transcript.specs.declared.answers.Status.{Status}
 use Rattle.transcript.specs.declared.answers.Told.{Told}
-use Rattle.transcript.specs.Told.{with_done, told}
+use Rattle.transcript.specs.Told.{alone, with_done, told}
 use Rattle.transcript.specs.Calls.{Snapshot, OfferAnswer, CloseAnswer, offset_of, limits}
 use Rattle.transcript.specs.Uses.{Event, start, offer, close, status, Step, Use, took, wrote}
 use Rattle.transcript.specs.Uses.{OutputStays, taken_in, written_in}
@@ -62,7 +62,7 @@ StatusTells S T =
 
 -- an answer by its number and values; success has the number 0
 abbrev pub told_of : OfferAnswer → Told
-told_of (Ok d) = with_done 0 d
+told_of (Ok d) = with_done (alone 0) d
 told_of (Err q) = told q
 
 -- characters that fit the output lead to that end

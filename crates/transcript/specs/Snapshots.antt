@@ -4,6 +4,7 @@ use Rattle.std.specs.Prelude.{None, Option, Ok, Err, Result}
 use Rattle.transcript.specs.declared.TheConstants.{LONGEST_SOURCE}
 use Rattle.conversion.specs.declared.Pause.TheVariants as pause
 use Rattle.conversion.specs.declared.Run.{Run}
+use Rattle.conversion.specs.Stops.{End}
 use Rattle.transcript.specs.declared.answers.Refusal.{Refusal}
 use Rattle.transcript.specs.declared.answers.Status.{Status}
 use Rattle.transcript.specs.declared.progress.Progress.{Progress}
@@ -56,29 +57,29 @@ abbrev pub Limits : ℕ → List ℕ → List ℕ → Result (Unit {0}) Refusal 
 Limits taken sector out (Ok u) = limits taken sector out ≡ None
 Limits taken sector out (Err q) = limits taken sector out ≡ Some q
 
--- a run can have come of the held bytes and the sector
-pub record Possible (s : Snapshot) (sector : List ℕ) (run : Run) : Type 0 where
+-- a run to that end can have come of the held bytes and the sector
+pub record Possible (s : Snapshot) (sector : List ℕ) (run : Run) (end : End) : Type 0 where
   pub within : run.read ≤ length s.held + length sector
   pub one_byte_each : run.characters ≤ run.read
   pub four_bytes_each : run.read ≤ 4 * run.characters
   pub one_written_each : run.characters ≤ run.written
   pub four_written_each : run.written ≤ 4 * run.characters
-  pub opening : run.end ≡ Ok pause.Open → length (drop run.read (s.held ++ sector)) ≤ 3
+  pub opening : end ≡ Ok pause.Open → length (drop run.read (s.held ++ sector)) ≤ 3
   pub limit : s.taken + length sector ≤ LONGEST_SOURCE
 
 -- the answer and the next snapshot, for characters of these lengths
-pub record Settles (s : Snapshot) (sector : List ℕ) (run : Run) (r : OfferAnswer)
+pub record Settles (s : Snapshot) (sector : List ℕ) (run : Run) (end : End) (r : OfferAnswer)
     (t : Snapshot) : Type 0 where
   pub by_lists : (chars source target : List ℕ) → run.characters ≡ length chars
       → run.read ≡ length source → run.written ≡ length target
-      → (r ≡ answers run.end (offset_of s source) (takes run.end s.held sector source)
+      → (r ≡ answers end (offset_of s source) (takes end s.held sector source)
       (length target))
       × (t ≡ record {
         state =
-            state_after run.end (offset_of s source) (takes run.end s.held sector source)
+            state_after end (offset_of s source) (takes end s.held sector source)
             (length target);
-        taken = s.taken + takes run.end s.held sector source;
+        taken = s.taken + takes end s.held sector source;
         characters = s.characters + length chars;
         written = s.written + length target;
-        held = holds run.end s.held chars (drop run.read (s.held ++ sector));
+        held = holds end s.held chars (drop run.read (s.held ++ sector));
       })

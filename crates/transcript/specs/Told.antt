@@ -3,6 +3,7 @@ use Rattle.std.specs.Prelude.{ℕ}
 use Rattle.conversion.specs.declared.Fault.{Fault}
 use Rattle.conversion.specs.declared.Fault.TheVariants.{Unread, Unwritten, Unfinished}
 use Rattle.transcript.specs.declared.answers.Done.{Done}
+use Rattle.transcript.specs.declared.answers.FaultAt.{FaultAt}
 use Rattle.transcript.specs.declared.answers.Refusal.{Refusal}
 use Rattle.transcript.specs.declared.answers.Refusal.TheVariants.{SectorTooLong, OutputTooLong}
 use Rattle.transcript.specs.declared.answers.Refusal.TheVariants.{SourceTooLong}
@@ -10,9 +11,9 @@ use Rattle.transcript.specs.declared.answers.Refusal.TheVariants.{Standing, Alre
 use Rattle.transcript.specs.declared.answers.Refusal.TheVariants.{Full}
 use Rattle.transcript.specs.declared.answers.Told.{Told}
 
--- a number with what an offer took and wrote, and a number alone
-abbrev pub with_done : ℕ → Done → Told
-with_done n d =
+-- a number alone
+abbrev pub alone : ℕ → Told
+alone n =
     record {
       number = n;
       standing = 0;
@@ -20,64 +21,40 @@ with_done n d =
       cause = 0;
       depth = 0;
       character = 0;
-      taken =
-          d.taken;
-      written = d.written;
-    }
-
-abbrev pub alone : ℕ → Told
-alone n = with_done n (record { taken = 0; written = 0 })
-
--- 6, 7 and 9: the values of a fault, under the number of the refusal and, where the fault stood
--- already, its own
-abbrev pub with_fault : (number standing : ℕ) → Fault → ℕ → Done → Told
-with_fault n s (Unread q) o d =
-    record {
-      number = n;
-      standing = s;
-      offset = o;
-      cause = q.cause;
-      depth = q.depth;
-      character =
-          0;
-      taken = d.taken;
-      written = d.written;
-    }
-with_fault n s (Unwritten c) o d =
-    record {
-      number = n;
-      standing = s;
-      offset = o;
-      cause = 0;
-      depth = 0;
-      character = c;
-      taken =
-          d.taken;
-      written = d.written;
-    }
-with_fault n s Unfinished o d =
-    record {
-      number = n;
-      standing = s;
-      offset = o;
-      cause = 0;
-      depth = 0;
-      character = 0;
-      taken =
-          0;
+      taken = 0;
       written = 0;
     }
+
+-- and what an offer took and wrote
+abbrev pub with_done : Told → Done → Told
+with_done t d = record t { taken = d.taken; written = d.written }
+
+-- 6, 7 and 9: what comes with a fault at that offset
+abbrev pub with_fault : Told → (offset : ℕ) → Done → Fault → Told
+with_fault t o d (Unread q) =
+    with_done (record t { offset = o; cause = q.cause; depth = q.depth }) d
+with_fault t o d (Unwritten c) = with_done (record t { offset = o; character = c }) d
+with_fault t o d Unfinished = record t { offset = o }
 
 abbrev pub fault_number : Fault → ℕ
 fault_number (Unread q) = 6
 fault_number (Unwritten c) = 7
 fault_number Unfinished = 9
 
+-- a fault that is met
+abbrev pub told_fault : FaultAt → Told
+told_fault f = with_fault (alone (fault_number f.fault)) f.offset f.done f.fault
+
+-- a fault that stood already
+abbrev pub told_standing : FaultAt → Told
+told_standing f =
+    with_fault (record (alone 4) { standing = fault_number f.fault }) f.offset f.done f.fault
+
 abbrev pub told : Refusal → Told
 told SectorTooLong = alone 1
 told OutputTooLong = alone 2
 told SourceTooLong = alone 3
-told (Standing f) = with_fault 4 (fault_number f.fault) f.fault f.offset f.done
+told (Standing f) = told_standing f
 told AlreadyClosed = alone 5
-told (Faulted f) = with_fault (fault_number f.fault) 0 f.fault f.offset f.done
-told (Full d) = with_done 8 d
+told (Faulted f) = told_fault f
+told (Full d) = with_done (alone 8) d

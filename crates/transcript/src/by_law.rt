@@ -1,4 +1,4 @@
-// An offer with the law of transcription, for the sets that it is made between.
+//! An offer with the law of transcription, for the sets that it is made between.
 ghost use Rattle.transcript.specs.Law.{TranscriptionLaw};
 ghost use Rattle.transcript.specs.Stacks.{TheLaw};
 ghost use Rattle.transcript.specs.Transcripts.{source_set, target_set, Steps};
@@ -8,8 +8,8 @@ use crate::answers::{Done, Refusal};
 use crate::calls::Transcript;
 use charset::CharacterSet;
 
-// The offer of a transcript: a call more of every use that led to it, and its sets keep the law.
-// Nothing writes the sector, since it is lent to be read alone.
+/// [`Transcript::offer`], with the law: it is a call more of every use that led to the transcript,
+/// and its sets keep the law of transcription.
 #[tactic(auto, using(crate::proofs::Whole::the_law))]
 pub fn offer_by_law<S: CharacterSet, T: CharacterSet>(
     transcript: &mut Transcript<S, T>,

@@ -1,4 +1,4 @@
-// The calls of a transcript.
+//! The calls of a transcript.
 ghost use Rattle.std.specs.Prelude.{◌≡◌, [], ◌∷◌};
 ghost use Rattle.transcript.specs.Calls.{fresh, status_of};
 ghost use Rattle.transcript.specs.Uses.{Use, start, offer, close, status};
@@ -6,24 +6,30 @@ ghost use Rattle.transcript.specs.Uses.{Use, start, offer, close, status};
 use crate::answers::{Answer, Done, Refusal, State, Status};
 use crate::progress::Progress;
 use charset::CharacterSet;
-use conversion::Converter;
+use conversion::{Converter, Run};
 
-// A transcript from a source set into a target set.
+/// A transcript from a source set into a target set. It owns the sets: nothing else changes them.
 #[derive(Drop)]
 pub struct Transcript<S: CharacterSet, T: CharacterSet> {
     pub(crate) converter: Converter<S, T>,
     pub(crate) progress: Progress,
 }
 
-// A call, with its buffers.
+/// A call, with its buffers.
 #[derive(Drop)]
 pub enum Call<'a> {
+    /// [`Transcript::start`].
     Start,
+    /// [`Transcript::offer`].
     Offer {
+        /// Bytes of the source.
         sector: &'a [u8],
+        /// Where the target codings go, from the front.
         output: &'a mut [u8],
     },
+    /// [`Transcript::close`].
     Close,
+    /// [`Transcript::status`].
     Status,
 }
 
@@ -31,7 +37,7 @@ impl<S: CharacterSet, T: CharacterSet> Transcript<S, T> {
     ghost use Rattle.transcript.specs.Transcripts.{source_set, target_set, come_to, Between};
     ghost use Rattle.transcript.specs.Transcripts.{GoesOn, Steps, Calls, OffersWhenOpen};
 
-    // A transcript that is started.
+    /// A transcript that is started.
     pub fn new(source: S, target: T) -> Transcript<S, T>
         ensures between { Between source target fresh result }
         ensures started { Use (source_set result) (target_set result) (start ∷ [])
@@ -48,11 +54,15 @@ impl<S: CharacterSet, T: CharacterSet> Transcript<S, T> {
         ensures { OffersWhenOpen self.old sector.now output.old result output.new self.new }
     {
         self.progress.within_limits(sector, output)?;
-        let run = self.converter.convert(self.progress.held, sector, output);
-        self.progress.settle(run, sector)
+        let mut run = Run::default();
+        let end = self
+            .converter
+            .convert(self.progress.held, sector, output, &mut run);
+        self.progress.settle(run, end, sector)
     }
 
-    // One call, by the state of the transcript: one match shows for each state what each call does.
+    /// One call, by the state of the transcript: one match shows what each call does in each state.
+    /// Refused as the call of that name is.
     pub fn call(&mut self, call: Call) -> Result<Answer, Refusal>
         ensures { Calls self.old call.entry self.new call.exit result }
     {
@@ -76,15 +86,17 @@ impl<S: CharacterSet, T: CharacterSet> Transcript<S, T> {
         }
     }
 
-    // Starts again, and forgets all before.
+    /// Starts again, and forgets all before. It always succeeds.
     pub fn start(&mut self)
         ensures { Steps self.old start self.new }
     {
         let _ = self.call(Call::Start);
     }
 
-    // Reads the held bytes and then the sector from the front, and writes each character behind the
-    // one before.
+    /// Reads the held bytes and then the sector from the front, and writes each character behind
+    /// the one before. Refused, in this order: 5 closed, 4 faulted, 1 and 2 a buffer that is too
+    /// long, 3 a source that is too long; then 6 where no coding and no opening stands in front, 7
+    /// where a character has no target coding, 8 where the next one does not fit.
     pub fn offer(&mut self, sector: &[u8], output: &mut [u8]) -> Result<Done, Refusal>
         ensures { Steps self.old (offer sector.now output.old result output.new) self.new }
     {
@@ -94,7 +106,7 @@ impl<S: CharacterSet, T: CharacterSet> Transcript<S, T> {
         Ok(done)
     }
 
-    // Closes, unless bytes are held.
+    /// Closes. Refused: 5 closed, 4 faulted, and 9 where bytes are held, which is a fault.
     pub fn close(&mut self) -> Result<(), Refusal>
         ensures { Steps self.old (close result) self.new }
     {
@@ -102,7 +114,7 @@ impl<S: CharacterSet, T: CharacterSet> Transcript<S, T> {
         Ok(())
     }
 
-    // What it has come to since the start.
+    /// What it has come to since the start.
     pub fn status(&self) -> Status
         ensures told { result ≡ status_of (come_to self.now) }
         ensures goes_on { GoesOn self.now (status result) self.now }

@@ -1,5 +1,5 @@
-// A transcript: text from one character set into another, sector by sector, with what it answers
-// and what it counts; and a whole text by the use of one.
+//! A transcript: text from one character set into another, sector by sector, with what it answers
+//! and what it counts; and a whole text by the use of one.
 #![tactic(auto)]
 
 mod answers;
@@ -15,9 +15,11 @@ pub use calls::{Call, Transcript};
 pub use progress::Progress;
 pub use transcription::{Failure, Transcription, transcribe};
 
-// How many bytes a sector, an output and a whole source may have.
+/// How many bytes a sector may have; more are refused by 1.
 pub const LONGEST_SECTOR: usize = 4096;
 
+/// How many bytes an output may have; more are refused by 2.
 pub const LONGEST_OUTPUT: usize = 65_536;
 
+/// How many bytes a whole source may have; more are refused by 3.
 pub const LONGEST_SOURCE: u64 = 4_294_967_296;

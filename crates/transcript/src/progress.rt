@@ -1,5 +1,5 @@
-// How far a transcript has come since it was started: its state, what it has counted, and the bytes
-// it holds.
+//! How far a transcript has come since it was started: its state, what it has counted, and the
+//! bytes it holds.
 ghost use Rattle.std.specs.Prelude.{◌+◌, ◌*◌, ◌≤◌, length};
 ghost use Rattle.transcript.specs.declared.TheConstants.{LONGEST_SOURCE};
 
@@ -8,6 +8,7 @@ use crate::{LONGEST_OUTPUT, LONGEST_SECTOR, LONGEST_SOURCE};
 use charset::Front;
 use conversion::{Fault, Pause, Run};
 
+/// How far a transcript has come, without its sets.
 #[derive(Clone, Copy)]
 pub struct Progress {
     pub(crate) state: State,
@@ -28,7 +29,7 @@ impl Progress {
     ghost use Rattle.transcript.specs.Calls.{fresh, status_of, ClosedOn};
     ghost use Rattle.transcript.specs.Snapshots.{snapshot, kept_after, Limits, Possible, Settles};
 
-    // That of a transcript that is started.
+    /// That of a transcript that is started.
     pub fn fresh() -> Progress
         ensures { snapshot result ≡ fresh }
     {
@@ -41,6 +42,7 @@ impl Progress {
         }
     }
 
+    /// What it tells of itself.
     pub fn status(&self) -> Status
         ensures { result ≡ status_of (snapshot self.now) }
     {
@@ -80,15 +82,20 @@ impl Progress {
         }
     }
 
-    // After the characters of an offer: what it counts, what it holds, and what it answers.
-    // What a run can be depends on the held bytes and the sector, so it is asked for here.
-    pub(crate) fn settle(&mut self, run: Run, sector: &[u8]) -> Result<Done, Refusal>
-        requires { Possible (snapshot self.old) sector.now run }
-        ensures { Settles (snapshot self.old) sector.now run result (snapshot self.new) }
+    // After the characters of an offer and what ended them: what it counts, what it holds, and what
+    // it answers. What these can be depends on the held bytes and the sector, so it is asked for.
+    pub(crate) fn settle(
+        &mut self,
+        run: Run,
+        end: Result<Pause, Fault>,
+        sector: &[u8],
+    ) -> Result<Done, Refusal>
+        requires { Possible (snapshot self.old) sector.now run end }
+        ensures { Settles (snapshot self.old) sector.now run end result (snapshot self.new) }
     {
         let held = self.held.len();
         let offset = self.taken - held as u64 + run.read as u64;
-        let (taken, rest) = match run.end {
+        let (taken, rest) = match end {
             Ok(Pause::Open) => (sector.len(), self.held.window(sector, run.read)),
             _ => (run.read.saturating_sub(held), self.kept(run.characters)),
         };
@@ -100,15 +107,11 @@ impl Progress {
         self.characters += run.characters as u64;
         self.written += done.written as u64;
         self.held = rest;
-        self.state = State::Open;
-        match run.end {
-            Ok(Pause::Open) => Ok(done),
-            Ok(Pause::Full) => Err(Refusal::Full(done)),
-            Err(fault) => {
-                let standing = FaultAt::from((fault, Place { offset, done }));
-                self.state = State::Faulted(standing);
-                Err(standing.into())
-            }
+        let placed = end.map_err(|fault| FaultAt::from((fault, Place { offset, done })));
+        self.state = placed.map_or_else(State::Faulted, |_| State::Open);
+        match placed? {
+            Pause::Open => Ok(done),
+            Pause::Full => Err(Refusal::Full(done)),
         }
     }
 

@@ -1,4 +1,4 @@
-// Where a transcript is put down and taken up again.
+//! Where a transcript is put down and taken up again.
 ghost use Rattle.std.specs.Prelude.{◌≡◌};
 ghost use Rattle.transcript.specs.Snapshots.{snapshot, Restored};
 ghost use Rattle.transcript.specs.Transcripts.{come_to, Resumed};
@@ -11,8 +11,8 @@ use charset::{CharacterSet, Front, Reading};
 use conversion::Converter;
 
 impl Progress {
-    // The progress of which this status was told while these bytes were held; none where its counts
-    // break the bounds of every transcript, or it tells of another number of bytes held.
+    /// The progress of which this status was told while these bytes were held; none where its
+    /// counts break the bounds of every transcript, or it tells of another number of bytes held.
     pub fn of(status: Status, held: Front) -> Option<Progress>
         ensures { Restored status held result }
     {
@@ -44,7 +44,7 @@ impl Progress {
         })
     }
 
-    // The bytes that are held.
+    /// The bytes that are held.
     pub fn held(&self) -> Front
         ensures { result ≡ (snapshot self.now).held }
     {
@@ -53,8 +53,8 @@ impl Progress {
 }
 
 impl<S: CharacterSet + Drop, T: CharacterSet + Drop> Transcript<S, T> {
-    // A transcript that goes on from where one came to; none where the source set does not read the
-    // held bytes as open, as it does those of every transcript from it.
+    /// A transcript that goes on from where one came to; none where the source set does not read
+    /// the held bytes as open, as it does those of every transcript from it.
     pub fn resume(source: S, target: T, progress: Progress) -> Option<Transcript<S, T>>
         ensures { Resumed source target (snapshot progress) result }
     {
@@ -69,7 +69,7 @@ impl<S: CharacterSet + Drop, T: CharacterSet + Drop> Transcript<S, T> {
 }
 
 impl<S: CharacterSet, T: CharacterSet> Transcript<S, T> {
-    // How far it has come, without the sets: enough to resume it.
+    /// How far it has come, without the sets: enough to resume it.
     pub fn progress(&self) -> Progress
         ensures { snapshot result ≡ come_to self.now }
     {

@@ -2,9 +2,9 @@
 use Rattle.std.specs.Prelude.{◌≡◌, ℕ, zero, suc, ◌<◌, ◌≤◌, true, List, []}
 use Rattle.std.specs.Prelude.{◌∷◌, length, take, Some, None, ◌≢◌, slice_index, refl}
 use Rattle.std.proofs.Common.{arith}
-use Rattle.std.specs.List.{AllByRecursion}
 use Rattle.std.proofs.lemmas.Bool.Decides.{nat_tests}
-use Rattle.charset.specs.Meaning.{Unreadable, Laws}
+use Rattle.charset.specs.Strings.{AreBytes, OneToFour}
+use Rattle.charset.specs.Meaning.{Unreadable, IsCodePoint, Laws}
 use Rattle.charset.proofs.FrontLemmas.{alone, no_front_by, unreadable_here}
 use Rattle.examples.specs.Odd.{odd_pair, odd_opens, odd_character, odd_string, odd_openings}
 use Rattle.examples.specs.Odd.{odd}
@@ -18,20 +18,19 @@ read (a ∷ []) c e = grind (arith, nat_tests)
 read (a ∷ b ∷ []) c e = grind (arith, nat_tests)
 read (a ∷ b ∷ d ∷ s) c e = cc
 
-sized : (s : List ℕ) (c : ℕ) → odd_character s ≡ Some c
-    → (0 < length s) × (length s ≤ 4)
+sized : (s : List ℕ) (c : ℕ) → odd_character s ≡ Some c → OneToFour s
 sized [] c e = cc
 sized (a ∷ []) c e = (omega arith, omega arith)
 sized (a ∷ b ∷ []) c e = (omega arith, omega arith)
 sized (a ∷ b ∷ d ∷ s) c e = cc
 
-bytes : (s : List ℕ) (c : ℕ) → odd_character s ≡ Some c → AllByRecursion (λ b. b < 256) s
+bytes : (s : List ℕ) (c : ℕ) → odd_character s ≡ Some c → AreBytes s
 bytes [] c e = cc
 bytes (a ∷ []) c e = (grind (arith, nat_tests), tt)
 bytes (a ∷ b ∷ []) c e = (grind (arith, nat_tests), (grind (arith, nat_tests), tt))
 bytes (a ∷ b ∷ d ∷ s) c e = cc
 
-characters : (s : List ℕ) (c : ℕ) → odd_character s ≡ Some c → c ≤ 0x10ffff
+characters : (s : List ℕ) (c : ℕ) → odd_character s ≡ Some c → IsCodePoint c
 characters [] c e = cc
 characters (a ∷ []) c e = grind (arith, nat_tests)
 characters (a ∷ b ∷ []) c e = grind (arith, nat_tests)
@@ -42,7 +41,7 @@ opening_sized [] o = omega arith
 opening_sized (a ∷ []) o = omega arith
 opening_sized (a ∷ b ∷ s) o = cc
 
-opening_bytes : (s : List ℕ) → odd_openings s ≡ true → AllByRecursion (λ b. b < 256) s
+opening_bytes : (s : List ℕ) → odd_openings s ≡ true → AreBytes s
 opening_bytes [] o = tt
 opening_bytes (a ∷ []) o = (grind (arith, nat_tests), tt)
 opening_bytes (a ∷ b ∷ s) o = cc

@@ -18,7 +18,7 @@ use Rattle.layers.specs.declared.recoding.moves.WrittenByte.{WrittenByte}
 use Rattle.layers.specs.declared.recoding.moves.WrittenByte.TheVariants.{One, Two}
 use Rattle.layers.specs.Depth.{over}
 use Rattle.layers.specs.Recoding.{End, clean, pending, broken, Recoding, put, stop, below, ends}
-use Rattle.layers.specs.Recoding.{before, shifted, is_clean, is_broken, at_most_four, shift_of}
+use Rattle.layers.specs.Recoding.{before, in_form, is_clean, is_broken, at_most_four, coding_of}
 use Rattle.layers.specs.Recoding.{scan_cause, recoded, Agrees}
 use Rattle.charset.proofs.FrontLemmas.{reading_reads, reading_is, reading_bad, answer_grows, alone}
 
@@ -124,10 +124,10 @@ module _ (r : Recoding) where
       go None k f h = absurd (omega arith)
 
 module _ {r : Recoding} (a : Agrees r) where
-  pub shifted_reads : (t s : List ℕ) → shifted r t ≡ Some s
+  pub in_form_reads : (t s : List ℕ) → in_form r t ≡ Some s
       → (ends r false s ≡ clean) × (below r false s ≡ t)
-  shifted_reads [] s e = let e' : [] ≡ s = cc in rw (← e') (refl, refl)
-  shifted_reads (b ∷ t) s e = go (r.form b) refl (shifted r t) (shifted_reads t) e
+  in_form_reads [] s e = let e' : [] ≡ s = cc in rw (← e') (refl, refl)
+  in_form_reads (b ∷ t) s e = go (r.form b) refl (in_form r t) (in_form_reads t) e
     where
       go : (f : Option WrittenByte) → r.form b ≡ f → (o : Option (List ℕ))
           → ((u : List ℕ) → o ≡ Some u
@@ -143,33 +143,33 @@ module _ {r : Recoding} (a : Agrees r) where
           rw (← e', st.0, st.1, g'.0, g'.1) (refl, refl)
       go None h (Some u) g e = cc
 
-  pub reads_shifted : (s : List ℕ) → ends r false s ≡ clean
-      → shifted r (below r false s) ≡ Some s
-  reads_shifted [] e = refl
-  reads_shifted (x ∷ []) e = go (r.step false x) refl e
+  pub reads_in_form : (s : List ℕ) → ends r false s ≡ clean
+      → in_form r (below r false s) ≡ Some s
+  reads_in_form [] e = refl
+  reads_in_form (x ∷ []) e = go (r.step false x) refl e
     where
       go : (v : Option Move) → r.step false x ≡ v → stop v (λ q. ends r q []) ≡ clean
-          → shifted r (put v (λ q. below r q [])) ≡ Some (x ∷ [])
+          → in_form r (put v (λ q. below r q [])) ≡ Some (x ∷ [])
       go (Some (Emit b)) h e = rw (a.step_one b x h)
       go (Some Hold) h e = cc
       go None h e = cc
-  reads_shifted (x ∷ y ∷ s) e =
-      go (r.step false x) refl (reads_shifted (y ∷ s)) (reads_shifted s) e
+  reads_in_form (x ∷ y ∷ s) e =
+      go (r.step false x) refl (reads_in_form (y ∷ s)) (reads_in_form s) e
     where
       snd : (v : Option Move) → r.step true y ≡ v → r.step false x ≡ Some Hold
-          → (ends r false s ≡ clean → shifted r (below r false s) ≡ Some s)
+          → (ends r false s ≡ clean → in_form r (below r false s) ≡ Some s)
           → stop v (λ q. ends r q s) ≡ clean
-          → shifted r (put v (λ q. below r q s)) ≡ Some (x ∷ y ∷ s)
+          → in_form r (put v (λ q. below r q s)) ≡ Some (x ∷ y ∷ s)
       snd (Some (Emit b)) h k f e = rw (a.step_two b x y k h, f e)
       snd (Some Hold) h k f e = absurd (a.no_third y h)
       snd None h k f e = cc
 
       go : (v : Option Move) → r.step false x ≡ v
           → (ends r false (y ∷ s) ≡ clean
-          → shifted r (below r false (y ∷ s)) ≡ Some (y ∷ s))
-          → (ends r false s ≡ clean → shifted r (below r false s) ≡ Some s)
+          → in_form r (below r false (y ∷ s)) ≡ Some (y ∷ s))
+          → (ends r false s ≡ clean → in_form r (below r false s) ≡ Some s)
           → stop v (λ q. ends r q (y ∷ s)) ≡ clean
-          → shifted r (put v (λ q. below r q (y ∷ s))) ≡ Some (x ∷ y ∷ s)
+          → in_form r (put v (λ q. below r q (y ∷ s))) ≡ Some (x ∷ y ∷ s)
       go (Some (Emit b)) h f g e = rw (a.step_one b x h, f e)
       go (Some Hold) h f g e = snd (r.step true y) refl h g e
       go None h f g e = cc
@@ -226,12 +226,12 @@ module _ (r : Recoding) (m : Meaning) where
       go broken k = rw (broken_take r s false n k).1 at h
 
   module _ (a : Agrees r) (l : Laws m) where
-    written' : (c : ℕ) (s : List ℕ) → shift_of r (m.codings.string c) ≡ Some s
+    written' : (c : ℕ) (s : List ℕ) → coding_of r (m.codings.string c) ≡ Some s
         → Codes (recoded r m) s c
     written' c s p = go (m.codings.string c) refl p
       where
         gone : (t : List ℕ) → m.codings.string c ≡ Some t → (o : Option (List ℕ))
-            → shifted r t ≡ o → at_most_four o ≡ Some s → Codes (recoded r m) s c
+            → in_form r t ≡ o → at_most_four o ≡ Some s → Codes (recoded r m) s c
         gone t k None h e = cc
         gone t k (Some u) h e = last (nat_le (length u) 4) refl e
           where
@@ -240,20 +240,20 @@ module _ (r : Recoding) (m : Meaning) where
             last false f e = cc
             last true f e =
                 let same : u ≡ s = cc in
-                let g = shifted_reads a t u h in
+                let g = in_form_reads a t u h in
                 rw (← same) (codes_from u c (leb-true _ _ f) g.0 (rw g.1 (l.written c t k)))
 
-        go : (o : Option (List ℕ)) → m.codings.string c ≡ o → shift_of r o ≡ Some s
+        go : (o : Option (List ℕ)) → m.codings.string c ≡ o → coding_of r o ≡ Some s
             → Codes (recoded r m) s c
         go None k e = cc
-        go (Some t) k e = gone t k (shifted r t) refl e
+        go (Some t) k e = gone t k (in_form r t) refl e
 
     read' : (s : List ℕ) (c : ℕ) → Codes (recoded r m) s c
-        → shift_of r (m.codings.string c) ≡ Some s
+        → coding_of r (m.codings.string c) ≡ Some s
     read' s c p =
         let h = codes_parts s c p in rw (
           l.read _ c h.2,
-          reads_shifted a s h.1,
+          reads_in_form a s h.1,
           le-leb (length s) 4 h.0,
         )
 

@@ -28,8 +28,9 @@ written c s e = alone_or_pair (byte_of supplementary c) refl e
     in_pairs (Some p) h f = rw (← same_Some _ _ f) (accented_of p.0 p.1 c h).stands
 
     alone_or_pair : (o : Option ℕ) → byte_of supplementary c ≡ o
-        → or_else (option_map (λ b. b ∷ []) o) (option_map (λ p. p.0 ∷ p.1 ∷ []) (pair_of c))
-        ≡ Some s → iso6937_character s ≡ Some c
+        → or_else (option_map (λ b. b ∷ []) o)
+        (option_map (λ p. p.0 ∷ p.1 ∷ []) (pair_of c)) ≡ Some s
+        → iso6937_character s ≡ Some c
     alone_or_pair None h f = in_pairs (pair_of c) refl f
     alone_or_pair (Some b) h f = rw (← same_Some _ _ f) (standing supplementary b c h)
 

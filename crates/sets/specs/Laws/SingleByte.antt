@@ -1,6 +1,6 @@
 -- A set of single bytes keeps the laws of a character set.
-use Rattle.std.specs.Prelude.{◌≡◌, ℕ, zero, suc, ◌<◌, ◌≤◌, true, List, []}
-use Rattle.std.specs.Prelude.{◌∷◌, length, take, Some, None, Option, refl}
+use Rattle.std.specs.Prelude.{◌≡◌, ℕ, zero, suc, ◌<◌, true, List, [], ◌∷◌}
+use Rattle.std.specs.Prelude.{length, take, Some, None, Option, refl}
 use Rattle.std.proofs.Common.{sym, ap, ◌∙◌, arith}
 use Rattle.std.specs.Option.{option_map}
 use Rattle.std.proofs.lemmas.Option.{none-some, same_Some}

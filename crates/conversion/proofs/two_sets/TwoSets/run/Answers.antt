@@ -1,5 +1,5 @@
 use Rattle.std.proofs.Common.{◌≡◌, ℕ, ◌+◌, ◌-◌, ◌≤◌, List, ◌++◌, length, take, drop, Ok, Err, refl}
-use Rattle.std.proofs.Common.{subst, arith}
+use Rattle.std.proofs.Common.{Result, subst, arith, rules}
 use mathlib.Core.Path.{subst₃}
 use borrow.Rule.Slice.PartMut.{put_mid}
 use Rattle.charset.specs.Meaning.{Meaning, Laws}
@@ -47,49 +47,52 @@ module _ {S T : Meaning} (l : Laws S) (held sector out o last : List ℕ) {count
   ends : (p : Pause) {x : Advance} → x ≡ Paused p
       → Advances S T (drop at (held ++ sector)) (part put o) last (Ok x)
       → Runs S T (held ++ sector) out (after put o last)
-      (record { characters = count; read = at; written = put; end = Ok p })
+      (record { characters = count; read = at; written = put }) (Ok p)
   ends p e s =
       let w = subst (λ z. Advances S T (drop at (held ++ sector)) (part put o) last (Ok z)) e s in
       far_ends S T l (held ++ sector) out o count at put far (Ok p) _ last w.0 w.1 refl
 
-  fails : (f : Fault) → Advances S T (drop at (held ++ sector)) (part put o) last (Err f)
+  fails : (f : Fault) {r : Result Pause Fault} → r ≡ Err f
+      → Advances S T (drop at (held ++ sector)) (part put o) last (Err f)
       → Runs S T (held ++ sector) out (after put o last)
-      (record { characters = count; read = at; written = put; end = Err f })
-  fails f w = far_ends S T l (held ++ sector) out o count at put far (Err f) _ last w.0 w.1 refl
+      (record { characters = count; read = at; written = put }) r
+  fails f e w =
+      rw e (far_ends S T l (held ++ sector) out o count at put far (Err f) _ last w.0 w.1 refl)
 
-pub run-preserved-then-copied-gt0 : goal.run-preserved-then-copied-gt0
-run-preserved-then-copied-gt0 g c = (
-  c.run.invariant.0,
+pub turns-preserved-then-copied-gt0 : goal.turns-preserved-then-copied-gt0
+turns-preserved-then-copied-gt0 g c = (
+  c.turns.invariant.0,
   copied (g.met.S.CharacterSet.lawful c.args.self.now.source) c.args.held c.args.sector.now
-      c.args.output.now c.run.output c.run.invariant.1 c.plain_at-copied.new.output
+      c.args.output.now c.turns.output c.turns.invariant.1 c.plain_at-copied.new.output
       c.plain_at-copied.result c.plain_at-copied.ensures,
 )
 
-pub run-preserved : goal.run-preserved
-run-preserved g c =
+pub turns-preserved : goal.turns-preserved
+turns-preserved g c =
     let l = g.met.S.CharacterSet.lawful c.args.self.now.source in (
-      c.in-Ok-Written.ensures.right,
+      c.in_ok-read.ensures.right,
       more l c.args.held c.args.sector.now c.args.output.now _ c.one_at.new.output
-          (still l c.args.held c.args.sector.now c.args.output.now c.run.output c.run.invariant.1
+          (still l c.args.held c.args.sector.now c.args.output.now c.turns.output
+          c.turns.invariant.1
           c.plain_at-copied.new.output c.plain_at-copied.result c.if-copied-gt0.false
           c.plain_at-copied.ensures)
-          _ _ c.in-Ok-Written.field-0-is c.in-Ok-Written.ensures.advances,
+          _ _ c.in-Written.is c.in_ok-read.ensures.advances,
     )
 
-pub returns-in-Ok-Paused-clause-runs : goal.returns-in-Ok-Paused-clause-runs
-returns-in-Ok-Paused-clause-runs g c =
+pub returns-in-Paused-clause-runs : goal.returns-in-Paused-clause-runs
+returns-in-Paused-clause-runs g c =
     let l = g.met.S.CharacterSet.lawful c.args.self.now.source in
     ends l c.args.held c.args.sector.now c.args.output.now _ c.one_at.new.output
-    (still l c.args.held c.args.sector.now c.args.output.now c.run.output c.run.invariant.1
+    (still l c.args.held c.args.sector.now c.args.output.now c.turns.output c.turns.invariant.1
     c.plain_at-copied.new.output c.plain_at-copied.result c.if-copied-gt0.false
     c.plain_at-copied.ensures)
-    _ c.in-Ok-Paused.field-0-is c.in-Ok-Paused.ensures.advances
+    _ c.in-Paused.is c.in_ok-read.ensures.advances
 
-pub returns-in-Err-clause-runs : goal.returns-in-Err-clause-runs
-returns-in-Err-clause-runs g c =
+pub returns-in_err-read-clause-runs : goal.returns-in_err-read-clause-runs
+returns-in_err-read-clause-runs g c =
     let l = g.met.S.CharacterSet.lawful c.args.self.now.source in
     fails l c.args.held c.args.sector.now c.args.output.now _ c.one_at.new.output
-    (still l c.args.held c.args.sector.now c.args.output.now c.run.output c.run.invariant.1
+    (still l c.args.held c.args.sector.now c.args.output.now c.turns.output c.turns.invariant.1
     c.plain_at-copied.new.output c.plain_at-copied.result c.if-copied-gt0.false
     c.plain_at-copied.ensures)
-    c.in-Err.fault c.in-Err.ensures.advances
+    c.in_err-read.field-0.0 (search rules) c.in_err-read.ensures.advances

@@ -11,8 +11,8 @@ settle-requires g c =
     let t = g.T.CharacterSet in let y = m.converter.sets.target in
     possible (set_of s x) (set_of t y) (g.met.S.CharacterSet.lawful x)
     (g.met.T.CharacterSet.lawful y)
-    (snapshot m.progress) c.args.sector.now c.args.output.now c.convert-run.new.output
-    c.convert-run.result c.convert-run.ensures.runs c.in_ok-within_limits.ensures
+    (snapshot m.progress) c.args.sector.now c.args.output.now c.convert-end.new.output
+    c.convert-end.new.run c.convert-end.result c.convert-end.ensures.runs c.in_ok-within_limits.ensures
 
 pub returns : goal.returns
 returns g c =
@@ -24,7 +24,7 @@ returns g c =
       offered =
           offered_open (set_of s x) (set_of t y) (g.met.S.CharacterSet.lawful x)
           (g.met.T.CharacterSet.lawful y)
-          (snapshot m.progress) c.args.sector.now c.args.output.now c.convert-run.new.output
-          c.convert-run.result c.convert-run.ensures.runs c.in_ok-within_limits.ensures
+          (snapshot m.progress) c.args.sector.now c.args.output.now c.convert-end.new.output
+          c.convert-end.new.run c.convert-end.result c.convert-end.ensures.runs c.in_ok-within_limits.ensures
           c.settle.result (snapshot c.settle.new.self) c.settle.ensures;
     }

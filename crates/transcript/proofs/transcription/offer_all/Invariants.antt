@@ -3,7 +3,7 @@ use Rattle.std.specs.Slice.Iter.{chunks_rest, chunks_size}
 use Rattle.charset.specs.Sets.{set_of}
 use Rattle.transcript.specs.Snapshots.{snapshot}
 use Rattle.transcript.proofs.Along.{Along}
-use Rattle.transcript.proofs.transcription.transcribe.Given as goal
+use Rattle.transcript.proofs.transcription.offer_all.Given as goal
 
 abbrev pub invariant-loop-sector : goal.invariant-loop-sector
 invariant-loop-sector g l =
