@@ -8,7 +8,7 @@
 
 An edit is a block of lines: `plant:` with a name and the function, `file:`, and then
 pairs of `old:` and `new:`, one line each, where the old text stands in the file exactly once. An edit ends as refused (a fact no longer
-holds), bad (it does not compile, so it says nothing), or survivor. A survivor in a program is also run: it counts as told where the
+holds), bad (it does not compile, or a proof file names what it took away, so it says nothing), or survivor. A survivor in a program is also run: it counts as told where the
 program prints another output. A line `known:` in a block says why the edit survives: it means the same, or it touches what no contract can say.
 The status is 0 where no other edit survives.
 """
@@ -180,7 +180,7 @@ def tried(top, name, plants):
     for count, (plant, _, _) in enumerate(plants):
         line = next((it for it in ran.stdout.split("\n") if f"{name}/{count:03}.edit: " in it), f"{count:03}.edit: NOT TRIED")
         told = line.split(".edit: ")[1]
-        kind = {"refused": "refused", "BAD": "bad", "NOT REFUSED": "survivor"}
+        kind = {"refused, as it must be (only because": "bad", "refused": "refused", "BAD": "bad", "NOT REFUSED": "survivor"}
         yield plant, next((to for word, to in kind.items() if told.startswith(word)), "not tried"), told
     shutil.rmtree(folder)
 
