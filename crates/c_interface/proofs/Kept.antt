@@ -1,7 +1,6 @@
 -- What a record keeps, from its numbers.
-use Rattle.std.proofs.Common.{◌≡◌, ℕ, ◌≤◌, Bool, true, false, List, length, take, take_all, min}
-use Rattle.std.proofs.Common.{arith}
-use Rattle.std.proofs.Common.{refl, sym, ap, subst, ◌∙◌}
+use Rattle.std.proofs.Common.{◌≡◌, ℕ, ◌≤◌, Bool, true, false, List, length, take}
+use Rattle.std.proofs.Common.{take_all, min, arith, refl, sym, ap, subst, ◌∙◌}
 use Rattle.std.specs.Bool.{then_some}
 use Rattle.std.specs.Option.{MatchOption}
 use Rattle.std.proofs.Math.Seq.{take-append_seam}
@@ -72,7 +71,8 @@ module _ (r : TranscriptRecord) (u : Status) (e : r.status ≡ status_record u) 
   same_places h b = ap padded (b ∙ held_first) ∙ sym (ap (λ z. z.bytes) k.numbers)
 
 module _ (r : TranscriptRecord) (f g : Form) (p : Progress) (u : Status) (h : List ℕ)
-    (e : r.status ≡ status_record u) (q : u.held ≡ length h) (come : snapshot p ≡ told_with u h)
+    (e : r.status ≡ status_record u) (q : u.held ≡ length h)
+    (come : snapshot p ≡ told_with u h)
   where
     same_status : u ≡ status_of (told_with u h)
     same_status =
@@ -107,7 +107,7 @@ module _ (r : TranscriptRecord) (f g : Form) (p : Progress) (u : Status) (h : Li
       can_be = rw (ap (λ s. s.state) come) can_be;
     }
 
-pub if_so : {K R : Type 0} (Q : K → Type 0) (b : Bool) (x : K) → (b ≡ true → Q x) → (b ≡ false → R)
-    → MatchOption (then_some b x) R Q
+pub if_so : {K R : Type 0} (Q : K → Type 0) (b : Bool) (x : K) → (b ≡ true → Q x)
+    → (b ≡ false → R) → MatchOption (then_some b x) R Q
 if_so Q true x y n = y refl
 if_so Q false x y n = n refl

@@ -1,6 +1,7 @@
 -- A record keeps one transcript: its forms and what it has come to can be read back from the
 -- numbers.
-use Rattle.std.proofs.Common.{◌≡◌, ℕ, ◌-◌, length, take, replicate, cond, ◌==◌, refl, sym, ap, ◌∙◌}
+use Rattle.std.proofs.Common.{◌≡◌, ℕ, ◌-◌, length, take, replicate, cond, ◌==◌}
+use Rattle.std.proofs.Common.{refl, sym, ap, ◌∙◌}
 use Rattle.std.proofs.Math.Seq.{take-append_seam}
 use Rattle.conversion.specs.declared.Fault.{Fault}
 use Rattle.conversion.specs.declared.Fault.TheVariants.{Unread, Unwritten, Unfinished}

@@ -1,6 +1,7 @@
 -- What a record keeps of a transcript after a call: an opening is held, and the transcript is in a
 -- state in which one can be.
-use Rattle.std.proofs.Common.{◌≡◌, ℕ, List, [], ◌∷◌, Some, None, Ok, Err, Option, refl, sym, subst}
+use Rattle.std.proofs.Common.{◌≡◌, ℕ, List, [], ◌∷◌, Some, None, Ok, Err, Option}
+use Rattle.std.proofs.Common.{refl, sym, subst}
 use Rattle.charset.specs.Meaning.{Meaning, IsOpening, Laws}
 use Rattle.conversion.specs.declared.Fault.TheVariants.{Unread, Unwritten, Unfinished}
 use Rattle.conversion.specs.declared.Pause.TheVariants as pause
@@ -23,7 +24,8 @@ pub record Sound (S : Meaning) (s : Snapshot) : Type 0 where
   pub can_be : CanBeIn s.state
 
 module _ (S T : Meaning) (l : Laws S) where
-  unless_any_opens : (chars held : List ℕ) → IsOpening S held → IsOpening S (unless_any chars held)
+  unless_any_opens : (chars held : List ℕ) → IsOpening S held
+      → IsOpening S (unless_any chars held)
   unless_any_opens [] held o = o
   unless_any_opens (c ∷ cs) held o = l.empty_opens
 
@@ -56,7 +58,8 @@ module _ (S T : Meaning) (l : Laws S) where
     after_offer sector out r after w =
         offered_if (refused s.state s.taken sector out) sector out r after w
 
-    closed_on : (p : State) (held : List ℕ) (r : CloseAnswer) → ClosedOn p held s r t → Sound S t
+    closed_on : (p : State) (held : List ℕ) (r : CloseAnswer) → ClosedOn p held s r t
+        → Sound S t
     closed_on Open [] r w = rw w.1 (record { opening = h.opening; can_be = tt })
     closed_on Open (b ∷ bs) r w = rw w.1 (record { opening = h.opening; can_be = refl })
     closed_on (Faulted f) held r w = rw w.1 h
@@ -76,7 +79,8 @@ module _ (k : FormTranscript) (S T : Meaning) (from : S ≡ form_set k.source) (
     before : Sound S s
     before = rw (from, come) (record { opening = kept.opening; can_be = kept.can_be })
 
-    after_it : Sound S t → CanBeKept (record { source = k.source; target = k.target; progress = p })
+    after_it : Sound S t
+        → CanBeKept (record { source = k.source; target = k.target; progress = p })
     after_it h =
         let there = subst (λ m. Sound m (snapshot p)) from (subst (Sound S) (sym now) h) in
         record { opening = there.opening; can_be = there.can_be }
@@ -92,8 +96,9 @@ module _ (k : FormTranscript) (S T : Meaning) (from : S ≡ form_set k.source) (
     close_kept r w = after_it (after_close S T laws s t before r w)
 
 -- a closing that is accepted
-pub closed_so : (s t : Snapshot) (p : Progress) → snapshot p ≡ t → (r : CloseAnswer) → r ≡ Ok tt
-    → ClosedOn s.state s.held s r t → ClosedOn s.state s.held s (Ok tt) (snapshot p)
+pub closed_so : (s t : Snapshot) (p : Progress) → snapshot p ≡ t → (r : CloseAnswer)
+    → r ≡ Ok tt → ClosedOn s.state s.held s r t
+    → ClosedOn s.state s.held s (Ok tt) (snapshot p)
 closed_so s t p now r e w =
     subst (λ x. ClosedOn s.state s.held s x (snapshot p)) e
     (subst (ClosedOn s.state s.held s r) (sym now) w)

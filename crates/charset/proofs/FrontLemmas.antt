@@ -1,8 +1,8 @@
 -- What the laws give of codings in front, and of reading.
-use Rattle.std.proofs.Common.{◌≡◌, ℕ, zero, suc, ◌+◌, ◌<◌, ◌≤◌, min, Bool, true, false, List, []}
-use Rattle.std.proofs.Common.{◌∷◌, ◌++◌, length, take, Some, None, Ok, Err, Option, sym, refl, ap}
-use Rattle.std.proofs.Common.{◌∙◌, inl, inr, arith, length-take, length-take-le, take_all}
-use Rattle.std.proofs.Common.{take-take}
+use Rattle.std.proofs.Common.{◌≡◌, ℕ, zero, suc, ◌+◌, ◌<◌, ◌≤◌, min, Bool}
+use Rattle.std.proofs.Common.{true, false, List, [], ◌∷◌, ◌++◌, length, take, Some, None}
+use Rattle.std.proofs.Common.{Ok, Err, Option, sym, refl, ap, ◌∙◌, inl, inr, arith}
+use Rattle.std.proofs.Common.{length-take, length-take-le, take_all, take-take}
 use native.Mathlib.Nat.{zero-min, min-zero, suc-min-suc}
 use lib.Seq.{take-append-le, take-append_seam}
 use Rattle.std.specs.Option.{is_none}
@@ -35,14 +35,16 @@ pub alone : (m : Meaning) → ((s : List ℕ) (c n : ℕ) → Codes m s c → n 
     → IsOpening m (take n s)) → ((s : List ℕ) → IsOpening m s → NoFront m s)
     → (s : List ℕ) (c d n : ℕ) → Codes m s c → Codes m (take n s) d → take n s ≡ s
 alone m begins bare s c d n h k = elim (cases_lt n (length s)) [
-  | inl g ↦ absurd (bare (take n s) (begins s c n h g) n d (rw (take_all_of n n s (omega arith)) k))
+  | inl g ↦ absurd
+      (bare (take n s) (begins s c n h g) n d (rw (take_all_of n n s (omega arith)) k))
   | inr g ↦ take_all n s g
 ]
 
 -- openings that begin with openings, none of them a coding, begin with no coding
-pub no_front_by : (m : Meaning) → ((s : List ℕ) (n : ℕ) → IsOpening m s → IsOpening m (take n s))
-    → ((s : List ℕ) (c : ℕ) → IsOpening m s → Codes m s c → ⊥) → (s : List ℕ) → IsOpening m s
-    → NoFront m s
+pub no_front_by : (m : Meaning)
+    → ((s : List ℕ) (n : ℕ) → IsOpening m s → IsOpening m (take n s))
+    → ((s : List ℕ) (c : ℕ) → IsOpening m s → Codes m s c → ⊥) → (s : List ℕ)
+    → IsOpening m s → NoFront m s
 no_front_by m begins bare s o n c p = bare (take n s) c (begins s n o) p
 
 module _ {m : Meaning} (l : Laws m) where
@@ -56,8 +58,8 @@ module _ {m : Meaning} (l : Laws m) where
       (l.coding_begins (take j s) d i q (rw (length-take-le j s hj) h)))
 
   -- a coding does not begin another
-  pub same_size : (s : List ℕ) (i j c d : ℕ) → i ≤ length s → j ≤ length s → Codes m (take i s) c
-      → Codes m (take j s) d → i ≡ j
+  pub same_size : (s : List ℕ) (i j c d : ℕ) → i ≤ length s → j ≤ length s
+      → Codes m (take i s) c → Codes m (take j s) d → i ≡ j
   same_size s i j c d hi hj p q = elim (cases_order i j) [
     | inl e ↦ e
     | inr (inl h) ↦ absurd (not_before s i j c d hj h p q)
@@ -69,8 +71,8 @@ module _ {m : Meaning} (l : Laws m) where
   without_coding_reads s true e h = rw e e
   without_coding_reads s false e h = rw e ((h, e), refl)
 
-  look_reads : (s : List ℕ) (k n : ℕ) → n + k ≡ 5 → ((j c : ℕ) → j < n → Codes m (take j s) c → ⊥)
-      → Reads m s (look m s n k)
+  look_reads : (s : List ℕ) (k n : ℕ) → n + k ≡ 5
+      → ((j c : ℕ) → j < n → Codes m (take j s) c → ⊥) → Reads m s (look m s n k)
   look_reads s zero n e none_yet = without_coding_reads s (m.openings s) refl never
     where
       never : NoFront m s

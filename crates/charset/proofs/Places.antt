@@ -1,7 +1,8 @@
 -- A string in four places with more bytes behind, and the front of a string that begins among held
 -- bytes.
-use Rattle.std.proofs.Common.{◌≡◌, ℕ, ◌+◌, ◌-◌, ◌≤◌, List, ◌++◌, length, take, drop, replicate, sym}
-use Rattle.std.proofs.Common.{ap, ◌∙◌, arith, length-drop, length-take-le, drop-drop, min, inl, inr}
+use Rattle.std.proofs.Common.{◌≡◌, ℕ, ◌+◌, ◌-◌, ◌≤◌, List, ◌++◌, length}
+use Rattle.std.proofs.Common.{take, drop, replicate, sym, ap, ◌∙◌, arith, length-drop}
+use Rattle.std.proofs.Common.{length-take-le, drop-drop, min, inl, inr}
 use borrow.Rule.Slice.PartMut.{put_mid, same_len_mid}
 use Rattle.std.proofs.lemmas.Slice.{take-put_mid, drop-put_mid}
 use lib.Seq.{take-append-add, drop-append-le, drop-append-add}
@@ -10,8 +11,8 @@ use Rattle.std.proofs.lemmas.List.{take_all}
 use Rattle.std.proofs.lemmas.Bool.{cases_lt}
 use Rattle.charset.specs.Padding.{Padded}
 
-module _ (places m : List ℕ) (n j k : ℕ) (h : Padded places n) (size : length m ≡ k) (part : j ≡ k)
-    (fits : n + k ≤ 4) where
+module _ (places m : List ℕ) (n j k : ℕ) (h : Padded places n) (size : length m ≡ k)
+    (part : j ≡ k) (fits : n + k ≤ 4) where
   pub view_more : take (n + k) (put_mid n j places m) ≡ take n places ++ m
   view_more = take-put_mid n j places m (n + k) (omega arith) (omega (arith, h.four))
 
@@ -20,7 +21,8 @@ module _ (places m : List ℕ) (n j k : ℕ) (h : Padded places n) (size : lengt
     few = fits;
     four =
         same_len_mid n j places m (size ∙ sym part ∙ sym
-        (length-take-le j (drop n places) (omega (arith, h.four, length-drop n places)))) ∙ h.four;
+        (length-take-le j (drop n places) (omega (arith, h.four, length-drop n places))))
+            ∙ h.four;
     zeros =
         drop-put_mid n j places m (n + k) (omega arith) (omega (arith, h.four)) (size ∙ sym part)
         ∙ sym (drop-drop k n places) ∙ ap (drop k) h.zeros ∙ drop-replicate k (4 - n) 0
@@ -28,14 +30,15 @@ module _ (places m : List ℕ) (n j k : ℕ) (h : Padded places n) (size : lengt
   }
 
 -- four bytes of a string and more
-pub four : (s more : List ℕ) → length s ≤ 4 → take 4 (s ++ more) ≡ s ++ take (4 - length s) more
+pub four : (s more : List ℕ) → length s ≤ 4
+    → take 4 (s ++ more) ≡ s ++ take (4 - length s) more
 four s more h =
     let e : length s + (4 - length s) ≡ 4 = omega arith in
     ap (λ n. take n (s ++ more)) (sym e) ∙ take-append-add s more (4 - length s)
 
 -- as many bytes more as four places have room for
-pub four_of : (s more : List ℕ) (n k : ℕ) → length s ≡ n → n ≤ 4 → k ≡ min (4 - n) (length more)
-    → s ++ take k more ≡ take 4 (s ++ more)
+pub four_of : (s more : List ℕ) (n k : ℕ) → length s ≡ n → n ≤ 4
+    → k ≡ min (4 - n) (length more) → s ++ take k more ≡ take 4 (s ++ more)
 four_of s more n k size few least =
     rw (least, take_min (4 - n) more, ← size) (sym (four s more (omega arith)))
 

@@ -1,6 +1,7 @@
 -- Characters in codings can be taken apart in one way.
-use Rattle.std.proofs.Common.{◌≡◌, ℕ, ◌⊎◌, List, [], ◌∷◌, ◌++◌, length, take, Some, sym, refl, ap}
-use Rattle.std.proofs.Common.{◌∙◌, inl, inr, append_assoc, append-nil, arith, length-append}
+use Rattle.std.proofs.Common.{◌≡◌, ℕ, ◌⊎◌, List, [], ◌∷◌, ◌++◌, length}
+use Rattle.std.proofs.Common.{take, Some, sym, refl, ap, ◌∙◌, inl, inr, append_assoc}
+use Rattle.std.proofs.Common.{append-nil, arith, length-append}
 use mathlib.Core.List.{append_cancel_left}
 use lib.Seq.{take-append_seam}
 use Rattle.charset.specs.Meaning.{Meaning, Codes, IsOpening, Laws}
@@ -40,8 +41,8 @@ module _ (m : Meaning) where
       p.3 ∙ rw (same, spells_one cs p.1 q.1 p.4 q.4) (sym q.3)
 
 module _ {m : Meaning} (l : Laws m) where
-  pub same_coding : (x y p q : List ℕ) (c d : ℕ) → Codes m x c → Codes m y d → x ++ p ≡ y ++ q
-      → (x ≡ y) × (c ≡ d)
+  pub same_coding : (x y p q : List ℕ) (c d : ℕ) → Codes m x c → Codes m y d
+      → x ++ p ≡ y ++ q → (x ≡ y) × (c ≡ d)
   same_coding x y p q c d h k e =
       let at_x : take (length x) (x ++ p) ≡ x = take-append_seam x p in
       let at_y : take (length y) (x ++ p) ≡ y = rw e (take-append_seam y q) in

@@ -1,6 +1,6 @@
 -- What an answer says.
-use Rattle.std.specs.Prelude.{◌≡◌, ℕ, Bool, true, false, ◌-◌, ◌/◌, List, length, drop, Some, None}
-use Rattle.std.specs.Prelude.{Option, Ok, Err, Result}
+use Rattle.std.specs.Prelude.{◌≡◌, ℕ, Bool, true, false, ◌-◌, ◌/◌, List, length}
+use Rattle.std.specs.Prelude.{drop, Some, None, Option, Ok, Err, Result}
 use Rattle.std.specs.Int.{to_be_bytes, w32}
 use Rattle.charset.specs.declared.SetRefusal.{SetRefusal}
 use Rattle.charset.specs.declared.Reading.{Reading}

@@ -1,7 +1,7 @@
 -- When a difference is of a known kind.
-use Rattle.std.specs.Prelude.{◌≡◌, ℕ, ◌*◌, ◌/◌, ◌%◌, ◌≤◌, Bool, true, false, nat_eq, cond, ◌&&◌}
-use Rattle.std.specs.Prelude.{◌||◌, ◌⊎◌, ◌≢◌, nat_le, nat_lt}
-use Rattle.std.specs.Prelude.{Some, None, Option}
+use Rattle.std.specs.Prelude.{◌≡◌, ℕ, ◌*◌, ◌/◌, ◌%◌, ◌≤◌, Bool, true}
+use Rattle.std.specs.Prelude.{false, nat_eq, cond, ◌&&◌, ◌||◌, ◌⊎◌, ◌≢◌}
+use Rattle.std.specs.Prelude.{nat_le, nat_lt, Some, None, Option}
 use Rattle.conformance.specs.declared.answer.Reply.{Reply}
 use Rattle.conformance.specs.declared.answer.Reply.TheVariants as answer
 use Rattle.conformance.specs.declared.known.Known.{Known}
@@ -55,7 +55,8 @@ ApartIn6937 x theirs ours (Some known.Bar) = IsBar theirs ours
 ApartIn6937 x theirs ours (Some known.Stroke) = IsStroke theirs ours
 ApartIn6937 x theirs ours (Some known.SmallG) = IsSmallG x theirs ours
 ApartIn6937 x theirs ours None =
-    (IsBar theirs ours → ⊥) × (IsStroke theirs ours → ⊥) × (IsSmallG x theirs ours → ⊥)
+    (IsBar theirs ours → ⊥) × (IsStroke theirs ours → ⊥)
+        × (IsSmallG x theirs ours → ⊥)
 ApartIn6937 x theirs ours (Some known.Control) = ⊥
 ApartIn6937 x theirs ours (Some known.Window) = ⊥
 ApartIn6937 x theirs ours (Some known.Waits) = ⊥
@@ -93,11 +94,13 @@ WaitsAt s f (Some known.Tags) = ⊥
 -- in reading a string of so many digits, as a number x
 abbrev pub Waits : Set → ℕ → ℕ → Reply → Reply → Type 0
 Waits s width x theirs ours =
-    (no_beginning s (front_of width x) ≡ true) × (theirs ≡ answer.Open) × (is_refusal ours ≡ true)
+    (no_beginning s (front_of width x) ≡ true) × (theirs ≡ answer.Open)
+        × (is_refusal ours ≡ true)
 
 abbrev pub ReadsBeyond : Set → Reply → Reply → (ℕ → Type 0) → Type 0
 ReadsBeyond s theirs ours Kind =
-    (s ≢ set.Utf8) × ((c : ℕ) × (theirs ≡ answer.Character c 1) × (ours ≡ answer.Refused 31)
+    (s ≢ set.Utf8)
+        × ((c : ℕ) × (theirs ≡ answer.Character c 1) × (ours ≡ answer.Refused 31)
     × Kind c)
 
 abbrev pub ApartInReading : Set → (width x : ℕ) → Reply → Reply → Option Known → Type 0
@@ -107,7 +110,8 @@ ApartInReading s width x theirs ours (Some known.Control) =
 ApartInReading s width x theirs ours (Some known.Window) =
     ReadsBeyond s theirs ours (λ c. IsWindow s c (first_byte width x))
 ApartInReading s width x theirs ours (Some known.Bar) = (s ≡ set.Iso6937) × IsBar theirs ours
-ApartInReading s width x theirs ours (Some known.Stroke) = (s ≡ set.Iso6937) × IsStroke theirs ours
+ApartInReading s width x theirs ours (Some known.Stroke) = (s ≡ set.Iso6937)
+    × IsStroke theirs ours
 ApartInReading s width x theirs ours (Some known.SmallG) =
     (s ≡ set.Iso6937) × IsSmallG x theirs ours
 ApartInReading s width x theirs ours (Some known.Tags) = ⊥
@@ -126,7 +130,8 @@ IsTag s n theirs ours =
 
 abbrev pub WritesBeyond : Set → Reply → Reply → (ℕ → Type 0) → Type 0
 WritesBeyond s theirs ours Kind =
-    (s ≢ set.Utf8) × (ours ≡ answer.NoCoding) × ((b : ℕ) × (theirs ≡ answer.Bytes b 1) × Kind b)
+    (s ≢ set.Utf8) × (ours ≡ answer.NoCoding)
+        × ((b : ℕ) × (theirs ≡ answer.Bytes b 1) × Kind b)
 
 -- the byte b stands for the character c there, and for d here
 abbrev pub Exchanged : (b c d n : ℕ) → Reply → Reply → Type 0
@@ -151,13 +156,16 @@ ApartInWriting s n theirs ours (Some known.Control) =
 ApartInWriting s n theirs ours (Some known.Window) =
     WritesBeyond s theirs ours (λ b. IsWindow s n b)
 ApartInWriting s n theirs ours (Some known.Bar) = (s ≡ set.Iso6937) × WritesBar n theirs ours
-ApartInWriting s n theirs ours (Some known.Stroke) = (s ≡ set.Iso6937) × WritesStroke n theirs ours
-ApartInWriting s n theirs ours (Some known.SmallG) = (s ≡ set.Iso6937) × WritesSmallG n theirs ours
+ApartInWriting s n theirs ours (Some known.Stroke) = (s ≡ set.Iso6937)
+    × WritesStroke n theirs ours
+ApartInWriting s n theirs ours (Some known.SmallG) = (s ≡ set.Iso6937)
+    × WritesSmallG n theirs ours
 ApartInWriting s n theirs ours (Some known.Waits) = ⊥
 ApartInWriting s n theirs ours None =
     (IsTag s n theirs ours → ⊥) × (WritesBeyond s theirs ours (λ b. IsControl n b) → ⊥)
     × (WritesBeyond s theirs ours (λ b. IsWindow s n b) → ⊥)
-    × (s ≡ set.Iso6937 → (WritesBar n theirs ours → ⊥) × (WritesStroke n theirs ours → ⊥)
+    × (s ≡ set.Iso6937
+        → (WritesBar n theirs ours → ⊥) × (WritesStroke n theirs ours → ⊥)
     × (WritesSmallG n theirs ours → ⊥))
 
 -- a question put to n, their answer and ours

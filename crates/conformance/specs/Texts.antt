@@ -1,5 +1,6 @@
 -- Answers as they are printed.
-use Rattle.std.specs.Prelude.{ℕ, ◌-◌, ◌*◌, ◌^◌, min, true, List, ◌++◌, length, replicate, codes}
+use Rattle.std.specs.Prelude.{ℕ, ◌-◌, ◌*◌, ◌^◌, min, true, List, ◌++◌, length}
+use Rattle.std.specs.Prelude.{replicate, codes}
 use Rattle.std.specs.Fmt.{digits, decimal}
 use Rattle.conformance.specs.declared.answer.Reply.{Reply}
 use Rattle.conformance.specs.declared.answer.Reply.TheVariants as answer

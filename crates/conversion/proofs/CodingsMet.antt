@@ -1,7 +1,7 @@
 -- Codings that were met.
-use Rattle.std.proofs.Common.{◌≡◌, ℕ, ◌≤◌, ◌⊎◌, List, [], ◌∷◌, length, take, Some, None, Ok, Option}
-use Rattle.std.proofs.Common.{option_and_then, slice_index_or, slice_set, replicate, inl, inr, sym}
-use Rattle.std.proofs.Common.{refl, ap, ◌∙◌, arith}
+use Rattle.std.proofs.Common.{◌≡◌, ℕ, ◌≤◌, ◌⊎◌, List, [], ◌∷◌, length}
+use Rattle.std.proofs.Common.{take, Some, None, Ok, Option, option_and_then, slice_index_or}
+use Rattle.std.proofs.Common.{slice_set, replicate, inl, inr, sym, refl, ap, ◌∙◌, arith}
 use Rattle.std.proofs.lemmas.Bool.{cases_lt, cases_eq}
 use Rattle.std.proofs.lemmas.List.{get_or-replicate, get_or_past, get_or-set_same, get_or-set_other}
 use Rattle.std.proofs.lemmas.List.{length-set}
@@ -28,15 +28,16 @@ found_kept {N} kept place s v e = go (slice_index_or kept place None) refl e
         (place, f ∙ (λ i. Some (record { bytes = bytes i; coding = both.1 i })))
 
 -- where nothing is kept, nothing is wrong
-pub none_kept : {N : ℕ} (kept : List (Option (Met N))) → kept ≡ replicate 256 None → (s v : List ℕ)
-    → KeptIn kept s v → ⊥
+pub none_kept : {N : ℕ} (kept : List (Option (Met N))) → kept ≡ replicate 256 None
+    → (s v : List ℕ) → KeptIn kept s v → ⊥
 none_kept kept same s v k = elim (cases_lt k.0 256) [
   | inl h ↦ none-some _ (sym (get_or-replicate 256 k.0 None None h)
       ∙ ap (λ z. slice_index_or z k.0 None) (sym same) ∙ k.1)
   | inr h ↦ none-some _ (sym (get_or_past kept k.0 None (rw same h)) ∙ k.1)
 ]
 
-pub two : (s : List ℕ) → 2 ≤ length s → take 2 s ≡ slice_index_or s 0 0 ∷ slice_index_or s 1 0 ∷ []
+pub two : (s : List ℕ) → 2 ≤ length s
+    → take 2 s ≡ slice_index_or s 0 0 ∷ slice_index_or s 1 0 ∷ []
 two [] h = absurd (omega (arith, h))
 two (x ∷ []) h = absurd (omega (arith, h))
 two (x ∷ y ∷ s) h = refl
@@ -49,8 +50,8 @@ three (x ∷ y ∷ []) h = absurd (omega (arith, h))
 three (x ∷ y ∷ z ∷ s) h = refl
 
 module _ (S T : Meaning) (m : MetCodings) (right : Right S T m) where
-  pub found_next : (input s v : List ℕ) (n : ℕ) → Kept m s v → n ≤ length input → take n input ≡ s
-      → ComesNext S T input (Ok (Some (v, n)))
+  pub found_next : (input s v : List ℕ) (n : ℕ) → Kept m s v → n ≤ length input
+      → take n input ≡ s → ComesNext S T input (Ok (Some (v, n)))
   found_next input s v n kept long front =
       option_and_then_some _ _ _ (right s v kept)
       (λ c f g. (c, (long, ap S.codings.character front ∙ f), g))

@@ -1,7 +1,8 @@
 -- Characters that lead on, one more and some more, and that they lead to one end only.
-use Rattle.std.proofs.Common.{◌≡◌, ℕ, ◌+◌, ◌≤◌, cond, ltb, List, [], ◌∷◌, ◌++◌, length, take, drop}
-use Rattle.std.proofs.Common.{Some, None, Ok, Err, Option, sym, refl, ap, ◌∙◌, inl, inr}
-use Rattle.std.proofs.Common.{append_assoc, append-nil, arith, length-append, take-append-drop}
+use Rattle.std.proofs.Common.{◌≡◌, ℕ, ◌+◌, ◌≤◌, cond, ltb, List, [], ◌∷◌}
+use Rattle.std.proofs.Common.{◌++◌, length, take, drop, Some, None, Ok, Err, Option, sym, refl}
+use Rattle.std.proofs.Common.{ap, ◌∙◌, inl, inr, append_assoc, append-nil, arith}
+use Rattle.std.proofs.Common.{length-append, take-append-drop}
 use lib.Seq.{take-append_seam}
 use Rattle.std.proofs.lemmas.Bool.{lt-ltb, le-ltb}
 use Rattle.charset.specs.declared.Reading.TheVariants.{Found, Open}
@@ -50,14 +51,15 @@ module _ (S T : Meaning) (l : Laws S) where
   }
 
   -- characters that fit and then some more
-  pub leads_on : (input cs source target rest ds source' target' rest' : List ℕ) (room room' : ℕ)
-      → Leads S T input room cs source target rest → Leads S T rest room' ds source' target' rest'
-      → length target + room' ≤ room → Leads S T input room (cs ++ ds) (source ++ source')
-      (target ++ target') rest'
+  pub leads_on : (input cs source target rest ds source' target' rest' : List ℕ)
+      (room room' : ℕ) → Leads S T input room cs source target rest
+      → Leads S T rest room' ds source' target' rest' → length target + room' ≤ room
+      → Leads S T input room (cs ++ ds) (source ++ source') (target ++ target') rest'
   leads_on input cs source target rest ds source' target' rest' room room' h k less = record {
     from = spells_append S cs ds source source' h.from k.from;
     into = spells_append T cs ds target target' h.into k.into;
-    begins = h.begins ∙ ap (λ t. source ++ t) k.begins ∙ sym (append_assoc source source' rest');
+    begins = h.begins ∙ ap (λ t. source ++ t) k.begins
+        ∙ sym (append_assoc source source' rest');
     fits = rw (length-append target target') (omega (arith, k.fits));
   }
 
@@ -114,7 +116,8 @@ module _ (S T : Meaning) (l : Laws S) where
   one_rest input cs source target ds source' target' room j k p q =
       elim (fronts l cs ds source source' p.rest q.rest p.leads.from q.leads.from
       (sym p.leads.begins ∙ q.leads.begins)) [
-        | inl g ↦ no_further g.0 g.1 cs ds source target p.rest source' target' q.rest input room j
+        | inl g ↦ no_further g.0 g.1 cs ds source target p.rest source' target' q.rest input room
+            j
             g.2 g.3 g.4 p.leads p.stops q.leads
         | inr g ↦ let n =
             no_further g.0 g.1 ds cs source' target' q.rest source target p.rest input room k g.2

@@ -1,7 +1,8 @@
 -- Bytes that stand alone in two sets.
-use Rattle.std.proofs.Common.{◌≡◌, ℕ, zero, suc, replicate, ◌<◌, List, [], ◌∷◌, length, take, Some}
-use Rattle.std.proofs.Common.{None, Ok, Err, Option, Result, option_and_then, slice_index_or}
-use Rattle.std.proofs.Common.{slice_set, length-set, ◌+◌, inl, inr, sym, refl, ap, ◌∙◌, arith}
+use Rattle.std.proofs.Common.{◌≡◌, ℕ, zero, suc, replicate, ◌<◌, List, [], ◌∷◌}
+use Rattle.std.proofs.Common.{length, take, Some, None, Ok, Err, Option, Result, option_and_then}
+use Rattle.std.proofs.Common.{slice_index_or, slice_set, length-set, ◌+◌, inl, inr, sym, refl}
+use Rattle.std.proofs.Common.{ap, ◌∙◌, arith}
 use Rattle.std.proofs.lemmas.Bool.{cases_order}
 use Rattle.std.proofs.lemmas.List.{get_or-replicate, get_or-set_same, get_or-set_other}
 use Rattle.std.proofs.lemmas.Option.{none-some, option_and_then_some, same_Some}
@@ -55,12 +56,14 @@ first_known S T = (refl, λ b h. absurd (omega (arith, h)))
 
 -- one more byte
 pub next_known : (S T : Meaning) (n : ℕ) (known : List (Option ℕ)) (o : Option ℕ) → n < 256
-    → AllKnown S T n known → o ≡ plain_byte S T n → AllKnown S T (n + 1) (slice_set known n o)
+    → AllKnown S T n known → o ≡ plain_byte S T n
+    → AllKnown S T (n + 1) (slice_set known n o)
 next_known S T n known o room h e =
     let size : length known ≡ 256 = h.0 in
     (length-set known n o ∙ size, at)
   where
-    at : (b : ℕ) → b < n + 1 → slice_index_or (slice_set known n o) b None ≡ plain_byte S T b
+    at : (b : ℕ) → b < n + 1
+        → slice_index_or (slice_set known n o) b None ≡ plain_byte S T b
     at b k = elim (cases_order b n) [
       | inl same ↦ ap (λ i. slice_index_or (slice_set known n o) i None) same
           ∙ get_or-set_same known n o None (rw h.0 room) ∙ e ∙ ap (plain_byte S T) (sym same)

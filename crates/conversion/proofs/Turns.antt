@@ -1,9 +1,10 @@
 -- One turn of a conversion, on lists.
-use Rattle.std.proofs.Common.{◌≡◌, ℕ, ◌+◌, ◌-◌, ◌<◌, ◌≤◌, List, [], ◌∷◌, ◌++◌, length, take, drop}
-use Rattle.std.proofs.Common.{Ok, Err, sym, refl, ap, ◌∙◌, append_assoc, append-nil, arith}
-use Rattle.std.proofs.Common.{length-append, length-drop, take-append-drop, length-take}
-use Rattle.std.proofs.Common.{length-take-le, drop-drop, take_at, take-add, drop_at, slice_index_or}
-use Rattle.std.proofs.Common.{slice_set, Some, subst}
+use Rattle.std.proofs.Common.{◌≡◌, ℕ, ◌+◌, ◌-◌, ◌<◌, ◌≤◌, List, []}
+use Rattle.std.proofs.Common.{◌∷◌, ◌++◌, length, take, drop, Ok, Err, sym, refl, ap}
+use Rattle.std.proofs.Common.{◌∙◌, append_assoc, append-nil, arith, length-append}
+use Rattle.std.proofs.Common.{length-drop, take-append-drop, length-take, length-take-le}
+use Rattle.std.proofs.Common.{drop-drop, take_at, take-add, drop_at, slice_index_or, slice_set}
+use Rattle.std.proofs.Common.{Some, subst}
 use lib.Seq.{take-append-add, drop-append-add}
 use mathlib.Core.Path.{subst₃}
 use borrow.Rule.Slice.PartMut.{put_mid, post_of, put_same}

@@ -1,6 +1,6 @@
 -- Fronts of strings, and that the first four bytes of a string decide how it advances.
-use Rattle.std.proofs.Common.{◌≡◌, ℕ, ◌-◌, ◌≤◌, List, ◌++◌, length, take, drop, Ok, Err, Result}
-use Rattle.std.proofs.Common.{sym, ◌∙◌, arith, length-take, take_all}
+use Rattle.std.proofs.Common.{◌≡◌, ℕ, ◌-◌, ◌≤◌, List, ◌++◌, length, take}
+use Rattle.std.proofs.Common.{drop, Ok, Err, Result, sym, ◌∙◌, arith, length-take, take_all}
 use Rattle.std.proofs.lemmas.List.{take_rest}
 use Rattle.charset.specs.declared.Reading.TheVariants.{Found, Open}
 use Rattle.charset.specs.Meaning.{Meaning, Laws}

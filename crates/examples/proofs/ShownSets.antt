@@ -36,5 +36,6 @@ set_examples = record {
       by_reading (parity_laws (shift_laws iso6937_laws)) (0x99 ∷ 0x99 ∷ []) (Err (up (own 35)))
       refl;
   open_after_four =
-      by_reading (shift_laws utf8_laws) (0x19 ∷ 0x62 ∷ 0x19 ∷ 0x20 ∷ []) (Err (own 36)) refl;
+      by_reading (shift_laws utf8_laws) (0x19 ∷ 0x62 ∷ 0x19 ∷ 0x20 ∷ []) (Err (own 36))
+          refl;
 }

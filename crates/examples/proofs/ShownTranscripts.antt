@@ -1,5 +1,6 @@
 -- The worked examples, by computing.
-use Rattle.std.proofs.Common.{◌≡◌, ℕ, ◌≤◌, List, [], ◌∷◌, ◌++◌, length, Ok, Err, refl, arith}
+use Rattle.std.proofs.Common.{◌≡◌, ℕ, ◌≤◌, List, [], ◌∷◌, ◌++◌, length, Ok}
+use Rattle.std.proofs.Common.{Err, refl, arith}
 use Rattle.charset.specs.declared.Reading.TheVariants as reading
 use Rattle.charset.specs.Answers.{Reads, reading}
 use Rattle.charset.specs.Meaning.{Meaning}
@@ -64,8 +65,10 @@ letter_offered = call acute_offered (record {
   target = 0xe9 ∷ [];
   end = Ok pause.Open;
   reaches =
-      reaching (0xc2 ∷ 0x65 ∷ []) 1 (Ok pause.Open) (0xe9 ∷ []) (0xc2 ∷ 0x65 ∷ []) (0xe9 ∷ []) []
-      (0xc2 ∷ 0x65 ∷ [], [], refl, refl, refl) (0xe9 ∷ [], [], refl, refl, refl) refl (omega arith)
+      reaching (0xc2 ∷ 0x65 ∷ []) 1 (Ok pause.Open) (0xe9 ∷ []) (0xc2 ∷ 0x65 ∷ [])
+          (0xe9 ∷ []) []
+      (0xc2 ∷ 0x65 ∷ [], [], refl, refl, refl) (0xe9 ∷ [], [], refl, refl, refl) refl
+          (omega arith)
       iso6937_laws.empty_opens;
   answer = refl;
   left = refl;
@@ -73,7 +76,8 @@ letter_offered = call acute_offered (record {
 })
 
 cedilla_offered : Use iso6937 latin
-    (offer (0x41 ∷ 0xcb ∷ 0x73 ∷ []) (0 ∷ 0 ∷ []) (Err (Faulted (fault_at (Unwritten 0x15f) 1 1 1)))
+    (offer (0x41 ∷ 0xcb ∷ 0x73 ∷ []) (0 ∷ 0 ∷ [])
+        (Err (Faulted (fault_at (Unwritten 0x15f) 1 1 1)))
     (0x41 ∷ 0 ∷ []) ∷ (start ∷ []))
     (record {
       state = state.Faulted (fault_at (Unwritten 0x15f) 1 1 1);

@@ -1,6 +1,7 @@
 -- Where a string that cannot be read goes wrong.
-use Rattle.std.proofs.Common.{◌≡◌, ℕ, ◌+◌, min, Bool, true, false, List, [], ◌∷◌, ◌++◌, length}
-use Rattle.std.proofs.Common.{take, sym, refl, ap, ◌∙◌, subst, append_assoc, append-nil}
+use Rattle.std.proofs.Common.{◌≡◌, ℕ, ◌+◌, min, Bool, true, false, List, [], ◌∷◌}
+use Rattle.std.proofs.Common.{◌++◌, length, take, sym, refl, ap, ◌∙◌, subst}
+use Rattle.std.proofs.Common.{append_assoc, append-nil}
 use lib.Seq.{take-append-add}
 use Rattle.std.proofs.lemmas.Bool.{both_ways}
 use Rattle.charset.specs.Meaning.{Meaning, Codes, IsOpening, Unreadable}

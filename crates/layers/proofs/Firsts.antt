@@ -1,6 +1,6 @@
 -- What `find` gives in numbers that rise: the smallest that passes.
-use Rattle.std.proofs.Common.{◌≡◌, ℕ, ◌<◌, true, false, List, length, Some, None, Option}
-use Rattle.std.proofs.Common.{MatchOption, arith}
+use Rattle.std.proofs.Common.{◌≡◌, ℕ, ◌<◌, true, false, List, length, Some, None}
+use Rattle.std.proofs.Common.{Option, MatchOption, arith}
 use Rattle.std.specs.List.{AllWithin, HoldsAt}
 use Rattle.charset.specs.Meaning.{Codings}
 use Rattle.layers.specs.CharacterList.{required, on_list, Rising, Complete}
@@ -13,7 +13,8 @@ use Rattle.layers.proofs.Risen.{earlier}
 abbrev pub IsFirst : (Passes Fails : ℕ → Type 0) → List ℕ → Option ℕ → Type 0
 IsFirst Passes Fails xs r =
     MatchOption r (AllWithin Fails xs 0 (length xs))
-    (λ c. Passes c × (i : ℕ) × (i < length xs) × HoldsAt (λ y. y ≡ c) xs i × AllWithin Fails xs 0 i)
+    (λ c. Passes c × (i : ℕ) × (i < length xs) × HoldsAt (λ y. y ≡ c) xs i
+        × AllWithin Fails xs 0 i)
 
 module _ (Passes Fails : ℕ → Type 0) (xs : List ℕ) where
   failing : AllWithin Fails xs 0 (length xs) → (d : ℕ) → on_list xs d ≡ true → Fails d
@@ -31,22 +32,27 @@ module _ (Passes Fails : ℕ → Type 0) (xs : List ℕ) where
 pub first_missing : (xs : List ℕ) (r : Option ℕ)
     → IsFirst (λ c. on_list xs c ≡ false) (λ c. on_list xs c ≡ true) required r
     → MatchOption r (Complete xs) (λ c. FirstMissing xs c)
-first_missing xs None f = failing (λ c. on_list xs c ≡ false) (λ c. on_list xs c ≡ true) required f
+first_missing xs None f =
+    failing (λ c. on_list xs c ≡ false) (λ c. on_list xs c ≡ true) required f
 first_missing xs (Some c) f = record {
-  needed = passing (λ c. on_list xs c ≡ false) (λ c. on_list xs c ≡ true) required c f.1 f.2 f.3;
+  needed =
+      passing (λ c. on_list xs c ≡ false) (λ c. on_list xs c ≡ true) required c f.1 f.2 f.3;
   absent = f.0;
   before =
-      failing_below (λ c. on_list xs c ≡ false) (λ c. on_list xs c ≡ true) required required_rising
+      failing_below (λ c. on_list xs c ≡ false) (λ c. on_list xs c ≡ true) required
+          required_rising
       c f.1 f.2 f.3 f.4;
 }
 
 pub first_uncoded : (k : Codings) (xs : List ℕ) → Rising xs → (r : Option ℕ)
     → IsFirst (λ c. k.string c ≡ None) (λ c. k.string c ≡ None → ⊥) xs r
     → MatchOption r (AllCoded k xs) (λ c. FirstUncoded k xs c)
-first_uncoded k xs up None f = failing (λ c. k.string c ≡ None) (λ c. k.string c ≡ None → ⊥) xs f
+first_uncoded k xs up None f =
+    failing (λ c. k.string c ≡ None) (λ c. k.string c ≡ None → ⊥) xs f
 first_uncoded k xs up (Some c) f = record {
   listed = passing (λ c. k.string c ≡ None) (λ c. k.string c ≡ None → ⊥) xs c f.1 f.2 f.3;
   uncoded = f.0;
   before =
-      failing_below (λ c. k.string c ≡ None) (λ c. k.string c ≡ None → ⊥) xs up c f.1 f.2 f.3 f.4;
+      failing_below (λ c. k.string c ≡ None) (λ c. k.string c ≡ None
+          → ⊥) xs up c f.1 f.2 f.3 f.4;
 }

@@ -1,7 +1,7 @@
 -- What a layer reads, from what the set below reads.
-use Rattle.std.proofs.Common.{◌≡◌, ℕ, zero, suc, ◌≤◌, Bool, true, false, cond, ◌⊎◌, List, [], ◌∷◌}
-use Rattle.std.proofs.Common.{length, take, Ok, Err, refl, ap, inl, inr, arith, length-take}
-use Rattle.std.proofs.Common.{take_all, take-take}
+use Rattle.std.proofs.Common.{◌≡◌, ℕ, zero, suc, ◌≤◌, Bool, true, false, cond}
+use Rattle.std.proofs.Common.{◌⊎◌, List, [], ◌∷◌, length, take, Ok, Err, refl, ap, inl}
+use Rattle.std.proofs.Common.{inr, arith, length-take, take_all, take-take}
 use Rattle.std.proofs.lemmas.Bool.{cases_lt, both_ways, false_from_ne_true}
 use Rattle.std.proofs.lemmas.List.{take_min}
 use Rattle.charset.specs.declared.SetRefusal.{SetRefusal}
@@ -28,12 +28,13 @@ front_reads l s j d p =
     reading_is l s (Ok (Found d (length (take j s))))
     (rw (length-take j s) (omega arith), rw (length-take j s, take_min j s) p)
 
-pub reads_sub : (ds : List ℕ) {m : Meaning} (l : Laws m) (s : List ℕ) (r : ReadAnswer) → Reads m s r
-    → Reads (sub ds m) s (sub_read ds r)
+pub reads_sub : (ds : List ℕ) {m : Meaning} (l : Laws m) (s : List ℕ) (r : ReadAnswer)
+    → Reads m s r → Reads (sub ds m) s (sub_read ds r)
 reads_sub ds {m} l s r h = go r (reading_is l s r h) h
   where
-    off : (c n : ℕ) → reading m s ≡ Ok (Found c n) → Reads m s (Ok (Found c n)) → (b : Bool)
-        → on_list ds c ≡ b → Reads (sub ds m) s (cond b (Ok (Found c n)) (Err (own 37)))
+    off : (c n : ℕ) → reading m s ≡ Ok (Found c n) → Reads m s (Ok (Found c n))
+        → (b : Bool) → on_list ds c ≡ b
+        → Reads (sub ds m) s (cond b (Ok (Found c n)) (Err (own 37)))
     off c n e h true k = (h.0, rw (h.1, k))
     off c n e h false k = (
       (
@@ -47,7 +48,8 @@ reads_sub ds {m} l s r h = go r (reading_is l s r h) h
       rw e,
     )
 
-    go : (r : ReadAnswer) → reading m s ≡ r → Reads m s r → Reads (sub ds m) s (sub_read ds r)
+    go : (r : ReadAnswer) → reading m s ≡ r → Reads m s r
+        → Reads (sub ds m) s (sub_read ds r)
     go (Ok (Found c n)) e h = off c n e h (on_list ds c) refl
     go (Ok Open) e h = h
     go (Err q) e h = ((λ j d p. h.0.0 j d (kept_parts ds l (take j s) d p).1, h.0.1), rw e)
@@ -70,9 +72,9 @@ reads_controls cs {m} l s r h = go s r h
     alone zero c d s e = cc
     alone (suc j) c d s e = cc
 
-    maybe : (c : ℕ) (s : List ℕ) (q : SetRefusal) → Unreadable m (c ∷ s) → q ≡ m.causes (c ∷ s)
-        → (b : Bool) → added cs m c ≡ b → Reads (controls cs m) (c ∷ s)
-        (cond b (Ok (Found c 1)) (Err (up q)))
+    maybe : (c : ℕ) (s : List ℕ) (q : SetRefusal) → Unreadable m (c ∷ s)
+        → q ≡ m.causes (c ∷ s) → (b : Bool) → added cs m c ≡ b
+        → Reads (controls cs m) (c ∷ s) (cond b (Ok (Found c 1)) (Err (up q)))
     maybe c s q h e true k = (omega arith, new cs l c k)
     maybe c s q h e false k = (
       (
@@ -98,8 +100,9 @@ control_answer cs l s r t h e = rw e (reads_controls cs l s r h)
 
 -- under another form of bytes, from what is read below of the first four
 module _ (r : Recoding) (m : Meaning) (a : Agrees r) (l : Laws m) where
-  pub reads_found : (s : List ℕ) (c n : ℕ) → n ≤ length s → n ≤ 4 → ends r false (take n s) ≡ clean
-      → Codes m (below r false (take n s)) c → Reads (recoded r m) s (Ok (Found c n))
+  pub reads_found : (s : List ℕ) (c n : ℕ) → n ≤ length s → n ≤ 4
+      → ends r false (take n s) ≡ clean → Codes m (below r false (take n s)) c
+      → Reads (recoded r m) s (Ok (Found c n))
   reads_found s c n h k e p =
       (h, codes_from r m (take n s) c (rw (length-take n s) (omega arith)) e p)
 
@@ -138,7 +141,8 @@ module _ (r : Recoding) (m : Meaning) (a : Agrees r) (l : Laws m) where
       → Reads (recoded r m) s (Err (own n))
   reads_own s n o d e = (
     (
-      λ k c p. let g = front_below s k c p in l.opening_bare (below r false (take 4 s)) o g.0 c g.1,
+      λ k c p. let g = front_below s k c p in
+          l.opening_bare (below r false (take 4 s)) o g.0 c g.1,
       false_from_ne_true _ (λ o. let h = opens_parts r m s o in elim d [
         | inl e ↦ both_ways _ h.1 (rw (take_all 4 s (omega arith)) at e)
         | inr g ↦ omega arith

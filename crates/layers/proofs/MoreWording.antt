@@ -1,6 +1,6 @@
 -- The subrepertoire and the controls in plain words.
-use Rattle.std.proofs.Common.{◌≡◌, ℕ, Bool, true, false, ◌&&◌, ltb, ◌⊎◌, List, [], ◌∷◌, get_or}
-use Rattle.std.proofs.Common.{is_err, is_none, Ok, Err, refl, inl, inr}
+use Rattle.std.proofs.Common.{◌≡◌, ℕ, Bool, true, false, ◌&&◌, ltb, ◌⊎◌, List}
+use Rattle.std.proofs.Common.{[], ◌∷◌, get_or, is_err, is_none, Ok, Err, refl, inl, inr}
 use Rattle.std.proofs.lemmas.Bool.{and_parts, both_ways, lt-ltb, false_from_ne_true}
 use Rattle.charset.specs.declared.Reading.TheVariants.{Found, Open}
 use Rattle.charset.specs.Meaning.{Meaning, Unreadable, Laws}
@@ -23,14 +23,15 @@ sub_meaning ds m l = record {
 }
   where
     go : (s : List ℕ) → Unreadable (sub ds m) s → (r : ReadAnswer) → Reads m s r
-        → Unreadable m s ⊎ ((c n : ℕ) × Reads m s (Ok (Found c n)) × (on_list ds c ≡ false))
+        → Unreadable m s
+            ⊎ ((c n : ℕ) × Reads m s (Ok (Found c n)) × (on_list ds c ≡ false))
     go s u (Ok (Found c n)) h =
         inr (c, n, h, false_from_ne_true _ (λ e. u.0 n c (rw (h.1, e) refl)))
     go s u (Ok Open) h = absurd (both_ways _ u.1 h)
     go s u (Err q) h = inl h.0
 
-pub added_words : (chosen : List Bool) (m : Meaning) → Laws m → (c : ℕ) → added chosen m c ≡ true
-    → Added chosen m c
+pub added_words : (chosen : List Bool) (m : Meaning) → Laws m → (c : ℕ)
+    → added chosen m c ≡ true → Added chosen m c
 added_words chosen m l c e =
     let h = added_parts chosen l c e in
     let first = (and_parts (ltb c 0x20 && get_or chosen c false)

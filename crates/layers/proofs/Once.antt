@@ -1,6 +1,6 @@
 -- Numbers are refused on one ground only.
-use Rattle.std.proofs.Common.{◌≡◌, ℕ, ◌<◌, ◌≤◌, true, false, ◌⊎◌, List, length, None, sym, ◌∙◌, inl}
-use Rattle.std.proofs.Common.{inr, arith}
+use Rattle.std.proofs.Common.{◌≡◌, ℕ, ◌<◌, ◌≤◌, true, false, ◌⊎◌, List}
+use Rattle.std.proofs.Common.{length, None, sym, ◌∙◌, inl, inr, arith}
 use Rattle.std.proofs.lemmas.Bool.{cases_order, both_ways}
 use Rattle.charset.specs.Meaning.{Codings}
 use Rattle.layers.specs.CharacterList.{required, rises_at, on_list, Rising, Complete}
@@ -9,8 +9,8 @@ use Rattle.layers.specs.Filled.{FirstNotRising, FirstMissing, FirstUncoded, IsNo
 use Rattle.layers.specs.Filled.{Lacking, WithoutCoding, Acceptable, Ground, OneAnswer}
 
 -- there is one smallest number only
-smallest : (P : ℕ → Type 0) (i j : ℕ) → P i → P j → ((k : ℕ) → k < i → P k → ⊥)
-    → ((k : ℕ) → k < j → P k → ⊥) → i ≡ j
+smallest : (P : ℕ → Type 0) (i j : ℕ) → P i → P j
+    → ((k : ℕ) → k < i → P k → ⊥) → ((k : ℕ) → k < j → P k → ⊥) → i ≡ j
 smallest P i j p q f g =
     elim (cases_order i j) [
       | inl e ↦ e
@@ -27,7 +27,8 @@ module _ (k : Codings) (xs : List ℕ) where
 
   missing_once : (c d : ℕ) → FirstMissing xs c → FirstMissing xs d → c ≡ d
   missing_once c d p q =
-      smallest (λ n. (on_list required n ≡ true) × (on_list xs n ≡ false)) c d (p.needed, p.absent)
+      smallest (λ n. (on_list required n ≡ true) × (on_list xs n ≡ false)) c d
+          (p.needed, p.absent)
       (q.needed, q.absent)
       (λ n h f. both_ways (on_list xs n) f.1 (p.before n f.0 h))
       (λ n h f. both_ways (on_list xs n) f.1 (q.before n f.0 h))

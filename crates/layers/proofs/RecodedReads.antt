@@ -1,8 +1,8 @@
 -- What a scan of the front and a reading of it below say of the whole.
-use Rattle.std.proofs.Common.{◌≡◌, ℕ, zero, suc, ◌+◌, ◌≤◌, min, nat_le, Bool, true, false, cond}
-use Rattle.std.proofs.Common.{List, [], ◌∷◌, length, take, Some, None, Ok, Err, Option, sym, refl}
-use Rattle.std.proofs.Common.{◌∙◌, inl, inr, arith, length-take, length-take-le, take-take}
-use Rattle.std.proofs.Common.{take_all}
+use Rattle.std.proofs.Common.{◌≡◌, ℕ, zero, suc, ◌+◌, ◌≤◌, min, nat_le, Bool}
+use Rattle.std.proofs.Common.{true, false, cond, List, [], ◌∷◌, length, take, Some, None, Ok}
+use Rattle.std.proofs.Common.{Err, Option, sym, refl, ◌∙◌, inl, inr, arith, length-take}
+use Rattle.std.proofs.Common.{length-take-le, take-take, take_all}
 use Rattle.std.proofs.lemmas.Bool.{leb-true}
 use Rattle.std.proofs.lemmas.Bool.Decides.{nat_tests}
 use Rattle.std.proofs.lemmas.List.Sums.{sum_by-cons}
@@ -19,7 +19,8 @@ use Rattle.layers.specs.Scans.{Scans, form_size, size_of}
 use Rattle.layers.specs.Laws.Recode.{below_front, reads_in_form}
 use Rattle.layers.proofs.LayerReads.{reads_found, reads_open, reads_refused, reads_own}
 
-pub in_form_size : (r : Recoding) (t u : List ℕ) → in_form r t ≡ Some u → length u ≡ size_of r t
+pub in_form_size : (r : Recoding) (t u : List ℕ) → in_form r t ≡ Some u
+    → length u ≡ size_of r t
 in_form_size r [] u e = let same : [] ≡ u = cc in rw (← same) refl
 in_form_size r (b ∷ t) u e =
     go (r.form b) (in_form r t) (in_form_size r t) e
@@ -37,7 +38,8 @@ in_form_size r (b ∷ t) u e =
 
 module _ (r : Recoding) (m : Meaning) (a : Agrees r) (l : Laws m) (s : List ℕ) where
   sized_found : (c k n : ℕ) → Reads m (below r false (take 4 s)) (Ok (Found c k))
-      → n ≡ size_of r (take k (below r false (take 4 s))) → Reads (recoded r m) s (Ok (Found c n))
+      → n ≡ size_of r (take k (below r false (take 4 s)))
+      → Reads (recoded r m) s (Ok (Found c n))
   sized_found c zero n h e = absurd (omega (arith, l.sized [] c h.1))
   sized_found c (suc j) n h e =
       let q = below_front r (take 4 s) false j h.0 in
@@ -53,8 +55,8 @@ module _ (r : Recoding) (m : Meaning) (a : Agrees r) (l : Laws m) (s : List ℕ)
       rw n_is (reads_found r m a l s c q.0 (omega arith) (omega arith) clean_here
       (rw below_here h.1))
 
-  at_four : (b : Bool) → nat_le 4 (length s) ≡ b → is_broken (ends r false (take 4 s)) ≡ false
-      → IsOpening m (below r false (take 4 s))
+  at_four : (b : Bool) → nat_le 4 (length s) ≡ b
+      → is_broken (ends r false (take 4 s)) ≡ false → IsOpening m (below r false (take 4 s))
       → Reads (recoded r m) s (cond b (Err (own 36)) (Ok Open))
   at_four true h e o = reads_own r m a l s 36 o (inr (leb-true 4 (length s) h)) (rw e refl)
   at_four false h e o =
@@ -69,8 +71,8 @@ recoded_read r s scan (Ok Open) =
     cond scan.broken (Err (own r.fault)) (cond (nat_le 4 (length s)) (Err (own 36)) (Ok Open))
 recoded_read r s scan (Err q) = Err (up q)
 
-pub recoded_answer : {r : Recoding} {m : Meaning} → Agrees r → Laws m → {s : List ℕ} {scan : Scan}
-    → Scans r s scan → {u : List ℕ} → u ≡ scan.below
+pub recoded_answer : {r : Recoding} {m : Meaning} → Agrees r → Laws m
+    → {s : List ℕ} {scan : Scan} → Scans r s scan → {u : List ℕ} → u ≡ scan.below
     → (x : ReadAnswer) → Reads m u x → {t : ReadAnswer} → t ≡ recoded_read r s scan x
     → Reads (recoded r m) s t
 recoded_answer {r} {m} a l {s} {scan} ok same x h e = rw e (go x (rw (same, ok.stands) at h))

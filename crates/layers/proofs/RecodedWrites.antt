@@ -1,8 +1,8 @@
 -- Writing bytes below one by one.
-use Rattle.std.proofs.Common.{◌≡◌, ℕ, ◌+◌, ◌<◌, ◌≤◌, List, [], ◌∷◌, ◌++◌, length, get_or, drop}
-use Rattle.std.proofs.Common.{Some, None, Option, option_and_then, sym, refl, ap, ◌∙◌, inl, inr}
-use Rattle.std.proofs.Common.{append_assoc, append-nil, add-one, arith, length-append}
-use Rattle.std.proofs.Common.{drop_of_length-le, drop-cons}
+use Rattle.std.proofs.Common.{◌≡◌, ℕ, ◌+◌, ◌<◌, ◌≤◌, List, [], ◌∷◌}
+use Rattle.std.proofs.Common.{◌++◌, length, get_or, drop, Some, None, Option, option_and_then}
+use Rattle.std.proofs.Common.{sym, refl, ap, ◌∙◌, inl, inr, append_assoc, append-nil}
+use Rattle.std.proofs.Common.{add-one, arith, length-append, drop_of_length-le, drop-cons}
 use Rattle.std.proofs.lemmas.Bool.{cases_lt, lt-ltb, le-ltb, le-leb, lt-leb}
 use Rattle.charset.specs.Strings.{with_byte}
 use Rattle.layers.specs.declared.recoding.moves.WrittenByte.{WrittenByte}
@@ -37,20 +37,23 @@ extends u (One x) w e =
     let p = joined_parts u x w e in
     (rw (p.1, length-append u (x ∷ [])) (omega (arith, p.0)), go p.1)
   where
-    go : w ≡ u ++ x ∷ [] → (o : Option (List ℕ)) → ahead u (before (Some (One x)) o) ≡ ahead w o
+    go : w ≡ u ++ x ∷ [] → (o : Option (List ℕ))
+        → ahead u (before (Some (One x)) o) ≡ ahead w o
     go h None = refl
     go h (Some v) = ap Some (sym (ap (λ z. z ++ v) h ∙ append_assoc u (x ∷ []) v))
 extends u (Two x y) w e = go (with_byte u x) refl e
   where
-    last : (v : List ℕ) → v ≡ u ++ x ∷ [] → w ≡ v ++ y ∷ [] → (o : Option (List ℕ))
-        → ahead u (before (Some (Two x y)) o) ≡ ahead w o
+    last : (v : List ℕ) → v ≡ u ++ x ∷ [] → w ≡ v ++ y ∷ []
+        → (o : Option (List ℕ)) → ahead u (before (Some (Two x y)) o) ≡ ahead w o
     last v h k None = refl
     last v h k (Some z) =
         ap Some (sym (ap (λ q. q ++ z) (k ∙ ap (λ q. q ++ y ∷ []) h)
         ∙ append_assoc (u ++ x ∷ []) (y ∷ []) z ∙ append_assoc u (x ∷ []) (y ∷ z)))
 
-    go : (j : Option (List ℕ)) → with_byte u x ≡ j → option_and_then (λ v. with_byte v y) j ≡ Some w
-        → (length w ≤ 4) × ((o : Option (List ℕ)) → ahead u (before (Some (Two x y)) o) ≡ ahead w o)
+    go : (j : Option (List ℕ)) → with_byte u x ≡ j
+        → option_and_then (λ v. with_byte v y) j ≡ Some w
+        → (length w ≤ 4)
+            × ((o : Option (List ℕ)) → ahead u (before (Some (Two x y)) o) ≡ ahead w o)
     go None h k = cc
     go (Some v) h k =
         let p = joined_parts u x v h in
@@ -67,7 +70,8 @@ fails u f e None = refl
 fails u (One x) e (Some v) = too_long u x v (joined_none u x e)
 fails u (Two x y) e (Some v) = go (with_byte u x) refl e
   where
-    go : (j : Option (List ℕ)) → with_byte u x ≡ j → option_and_then (λ v. with_byte v y) j ≡ None
+    go : (j : Option (List ℕ)) → with_byte u x ≡ j
+        → option_and_then (λ v. with_byte v y) j ≡ None
         → at_most_four (Some (u ++ x ∷ y ∷ v)) ≡ None
     go None h k = too_long u x (y ∷ v) (joined_none u x h)
     go (Some w) h k =
@@ -95,8 +99,8 @@ module _ (r : Recoding) (t : List ℕ) (i : ℕ) (u : List ℕ) (made : Made r t
               made.whole ∙ rw (here, k) (x.1 (in_form r (drop (i + 1) t)));
         }
 
-    pub made_fails : (f : WrittenByte) → r.form (get_or t i 0) ≡ Some f → extended u f ≡ None
-        → at_most_four (in_form r t) ≡ None
+    pub made_fails : (f : WrittenByte) → r.form (get_or t i 0) ≡ Some f
+        → extended u f ≡ None → at_most_four (in_form r t) ≡ None
     made_fails f k e = rw (made.whole, here, k) (fails u f e (in_form r (drop (i + 1) t)))
 
   pub made_whole : length t ≤ i → at_most_four (in_form r t) ≡ Some u

@@ -1,7 +1,8 @@
 -- The layers' meanings in plain words.
-use Rattle.std.proofs.Common.{◌≡◌, ℕ, suc, ◌+◌, ◌-◌, ◌%◌, ◌<◌, ◌≤◌, Bool, true, false, cond, ◌⊎◌}
-use Rattle.std.proofs.Common.{List, [], ◌∷◌, ◌++◌, map, length, take, Some, None, Ok, Err, Option}
-use Rattle.std.proofs.Common.{sym, refl, ap, ◌∙◌, subst, inl, inr, append-nil, arith, length-append}
+use Rattle.std.proofs.Common.{◌≡◌, ℕ, suc, ◌+◌, ◌-◌, ◌%◌, ◌<◌, ◌≤◌}
+use Rattle.std.proofs.Common.{Bool, true, false, cond, ◌⊎◌, List, [], ◌∷◌, ◌++◌}
+use Rattle.std.proofs.Common.{map, length, take, Some, None, Ok, Err, Option, sym, refl, ap}
+use Rattle.std.proofs.Common.{◌∙◌, subst, inl, inr, append-nil, arith, length-append}
 use Rattle.std.proofs.Common.{take_all}
 use lib.ListN.{length-map}
 use lib.Seq.{take-append_seam}
@@ -42,8 +43,8 @@ in_form_parity [] s e = (tt, cc)
 in_form_parity (b ∷ t) s e = go (cases_lt b 0x80) (in_form parity_bytes t) (in_form_parity t) e
   where
     go : (b < 0x80) ⊎ (0x80 ≤ b) → (o : Option (List ℕ))
-        → ((u : List ℕ) → o ≡ Some u → InParity t u) → before (parity_form b) o ≡ Some s
-        → InParity (b ∷ t) s
+        → ((u : List ℕ) → o ≡ Some u → InParity t u)
+        → before (parity_form b) o ≡ Some s → InParity (b ∷ t) s
     go d None f e = cc
     go (inl h) (Some u) f e =
         let k : parity_form b ≡ Some (One (in_parity b)) = grind (arith, nat_tests) in
@@ -78,7 +79,8 @@ in_form_shifts [] s e = cc
 in_form_shifts (b ∷ t) s e = go (shift_form b) refl (in_form shift_bytes t) (in_form_shifts t) e
   where
     go : (f : Option WrittenByte) → shift_form b ≡ f → (o : Option (List ℕ))
-        → ((u : List ℕ) → o ≡ Some u → Shifts t u) → before f o ≡ Some s → Shifts (b ∷ t) s
+        → ((u : List ℕ) → o ≡ Some u → Shifts t u) → before f o ≡ Some s
+        → Shifts (b ∷ t) s
     go f h None g e = cc
     go (Some (One x)) h (Some u) g e =
         let k : (b < 0x80) × (b ≡ 0x19 → ⊥) × (b ≡ x) =
@@ -103,8 +105,8 @@ module _ {r : Recoding} (a : Agrees r) (m : Meaning) where
   form_codes s c p =
       let h = codes_parts r m s c p in (below r false s, reads_in_form a s h.1, h.2, h.0)
 
-  form_coded : (s t : List ℕ) (c : ℕ) → in_form r t ≡ Some s → Codes m t c → length s ≤ 4
-      → Codes (recoded r m) s c
+  form_coded : (s t : List ℕ) (c : ℕ) → in_form r t ≡ Some s → Codes m t c
+      → length s ≤ 4 → Codes (recoded r m) s c
   form_coded s t c e p h = let g = in_form_reads a t s e in codes_from r m s c h g.0 (rw g.1 p)
 
   -- a pending string is a clean one and a byte that is held
@@ -122,7 +124,8 @@ module _ {r : Recoding} (a : Agrees r) (m : Meaning) where
       go (Some (Emit b)) k e = cc
       go (Some Hold) k e = ([], x, refl, k, refl)
       go None k e = cc
-  pending_split (x ∷ y ∷ s) e = go (r.step false x) refl (pending_split (y ∷ s)) (pending_split s) e
+  pending_split (x ∷ y ∷ s) e =
+    go (r.step false x) refl (pending_split (y ∷ s)) (pending_split s) e
     where
       snd : (v : Option Move) → r.step true y ≡ v → r.step false x ≡ Some Hold
           → (ends r false s ≡ pending → Split s (below r false s))
@@ -168,18 +171,21 @@ module _ {r : Recoding} (a : Agrees r) (m : Meaning) where
       unbroken true e = cc
       unbroken false e = cc
 
-      go : (v : Option Move) → ((z : Bool) → ends r z p ≡ cond h pending clean
-          → (ends r z (p ++ s) ≡ ends r h s) × (below r z (p ++ s) ≡ below r z p ++ below r h s))
+      go : (v : Option Move)
+          → ((z : Bool) → ends r z p ≡ cond h pending clean
+          → (ends r z (p ++ s) ≡ ends r h s)
+              × (below r z (p ++ s) ≡ below r z p ++ below r h s))
           → stop v (λ z. ends r z p) ≡ cond h pending clean
           → (stop v (λ z. ends r z (p ++ s)) ≡ ends r h s)
-          × (put v (λ z. below r z (p ++ s)) ≡ put v (λ z. below r z p) ++ below r h s)
+              × (put v (λ z. below r z (p ++ s)) ≡ put v (λ z. below r z p) ++ below r h s)
       go (Some (Emit b)) f e = ((f false e).0, ap {B = List ℕ} (λ z. b ∷ z) (f false e).1)
       go (Some Hold) f e = f true e
       go None f e = absurd (unbroken h (sym e))
 
   -- an opening is a string that shifts an opening below, with or without one more held byte
   form_opens : (s : List ℕ) → IsOpening (recoded r m) s
-      → (length s ≤ 3) × ((t : List ℕ) × IsOpening m t × ((in_form r t ≡ Some s) ⊎ Split s t))
+      → (length s ≤ 3)
+          × ((t : List ℕ) × IsOpening m t × ((in_form r t ≡ Some s) ⊎ Split s t))
   form_opens s o =
       let h = opens_parts r m s o in (h.0, (below r false s, h.2, go (ends r false s) refl h.1))
     where
@@ -198,13 +204,14 @@ module _ {r : Recoding} (a : Agrees r) (m : Meaning) where
       let j = join false i.0 false (i.1 ∷ []) g.0 in
       rw (i.2, j.0, j.1, i.3, append-nil) (refl, g.1)
 
-  form_opened : (s t : List ℕ) → length s ≤ 3 → IsOpening m t → (in_form r t ≡ Some s) ⊎ Split s t
-      → IsOpening (recoded r m) s
+  form_opened : (s t : List ℕ) → length s ≤ 3 → IsOpening m t
+      → (in_form r t ≡ Some s) ⊎ Split s t → IsOpening (recoded r m) s
   form_opened s t h o d = let g = form_ends s t d in opens_from r m s h g.0 (rw g.1 o)
 
   -- what a wrong byte does
   wrong_join : (p : List ℕ) (q : Bool) (x : ℕ) (s : List ℕ)
-      → (ends r q p ≡ clean → r.step false x ≡ None) → (ends r q p ≡ pending → r.step true x ≡ None)
+      → (ends r q p ≡ clean → r.step false x ≡ None)
+      → (ends r q p ≡ pending → r.step true x ≡ None)
       → (ends r q (p ++ x ∷ s) ≡ broken) × (below r q (p ++ x ∷ s) ≡ below r q p)
   wrong_join [] false x s f g = rw (f refl) (refl, refl)
   wrong_join [] true x s f g = rw (g refl) (refl, refl)
@@ -217,7 +224,8 @@ module _ {r : Recoding} (a : Agrees r) (m : Meaning) where
           → (stop v (λ z. ends r z p) ≡ pending → r.step true x ≡ None)
           → (stop v (λ z. ends r z (p ++ x ∷ s)) ≡ broken)
           × (put v (λ z. below r z (p ++ x ∷ s)) ≡ put v (λ z. below r z p))
-      go (Some (Emit b)) i f g = ((i false f g).0, ap {B = List ℕ} (λ z. b ∷ z) (i false f g).1)
+      go (Some (Emit b)) i f g =
+          ((i false f g).0, ap {B = List ℕ} (λ z. b ∷ z) (i false f g).1)
       go (Some Hold) i f g = i true f g
       go None i f g = (refl, refl)
 
@@ -242,8 +250,8 @@ module _ {r : Recoding} (a : Agrees r) (m : Meaning) where
         let e : take 4 (s ++ rest) ≡ s = rw (← h) (take-append_seam s rest) in
         rw (e, g.0, g.1, reading_is l t (Ok Open) o)
 
-    below_cause : (s t rest : List ℕ) → length s ≤ 4 → Unreadable m t → in_form r t ≡ Some s
-        → (recoded r m).causes (s ++ rest) ≡ up (m.causes t)
+    below_cause : (s t rest : List ℕ) → length s ≤ 4 → Unreadable m t
+        → in_form r t ≡ Some s → (recoded r m).causes (s ++ rest) ≡ up (m.causes t)
     below_cause s t rest h b e =
         let g = in_form_reads a t s e in
         let more = below r false (take (4 - length s) rest) in
@@ -278,7 +286,8 @@ module _ {r : Recoding} (a : Agrees r) (m : Meaning) where
         size : length s ≡ length p + 1
         size = length-append p (x ∷ [])
 
-        waits : is_broken (ends r false s) ≡ false → IsOpening m (below r false s) → length p ≡ 3
+        waits : is_broken (ends r false s) ≡ false → IsOpening m (below r false s)
+            → length p ≡ 3
         waits e b = elim (cases_lt (length p) 3) [
           | inl h ↦ absurd (both_ways _ u.1 (opens_from r m s (omega (arith, size)) e b))
           | inr h ↦ omega (arith, known.0)
@@ -345,7 +354,8 @@ module _ {r : Recoding} (a : Agrees r) (m : Meaning) where
 
 pub parity_meaning : (m : Meaning) → Laws m → ParityMeaning m
 parity_meaning m l = record {
-  codes = λ s c p. let h = form_codes parity_agrees m s c p in (h.0, in_form_parity h.0 s h.1, h.2);
+  codes = λ s c p. let h = form_codes parity_agrees m s c p in
+      (h.0, in_form_parity h.0 s h.1, h.2);
   coded_by =
       λ s t c h p. form_coded parity_agrees m s t c (parity_in_form t s h) p
       (rw (h.1, length-map) (l.sized t c p).1);
@@ -359,7 +369,8 @@ parity_meaning m l = record {
       λ s t h o. form_opened parity_agrees m s t (rw (h.1, length-map) (l.opening_sized t o)) o
       (inl (parity_in_form t s h));
   odd_parity = λ p rest x o k. own_cause parity_agrees m l p rest x o (λ _. odd x k) (λ _. refl);
-  cause_below = λ s t rest h b d. below_cause parity_agrees m l s t rest h b (parity_in_form t s d);
+  cause_below =
+      λ s t rest h b d. below_cause parity_agrees m l s t rest h b (parity_in_form t s d);
   causes_only = λ s b u.
       let f = first_fault (parity m) (parity_laws l).empty_opens s u in (
         f.0,
@@ -410,10 +421,12 @@ no_low x h = grind (arith, nat_tests)
 pub shift_meaning : (m : Meaning) → Laws m → ShiftMeaning m
 shift_meaning m l = record {
   codes =
-      λ s c p. let h = form_codes shift_agrees m s c p in (h.0, in_form_shifts h.0 s h.1, h.2, h.3);
+      λ s c p. let h = form_codes shift_agrees m s c p in
+          (h.0, in_form_shifts h.0 s h.1, h.2, h.3);
   coded_by = λ s t c h p k. form_coded shift_agrees m s t c (shifts_in_form t s h) p k;
   opens =
-      λ s o. let h = form_opens shift_agrees m s o in (h.0, (h.1.0, h.1.1, as_words s h.1.0 h.1.2));
+      λ s o. let h = form_opens shift_agrees m s o in
+          (h.0, (h.1.0, h.1.1, as_words s h.1.0 h.1.2));
   opened_by = λ s t h o d. form_opened shift_agrees m s t h o (as_form s t d);
   not_shifted =
       λ p rest x o d. own_cause shift_agrees m l p rest x o (cannot false p x d) (cannot' p x d);
@@ -439,8 +452,9 @@ shift_meaning m l = record {
 
     kind : (p : List ℕ) (x : ℕ) → Fault shift_agrees m l p x
         → CannotFollow p x
-        ⊎ (((length p ≡ 3) × (t : List ℕ) × IsOpening m t × BeginsShifted t (p ++ x ∷ []))
-        ⊎ ((t : List ℕ) × Shifts t (p ++ x ∷ []) × Unreadable m t))
+            ⊎ (((length p ≡ 3) × (t : List ℕ) × IsOpening m t
+                × BeginsShifted t (p ++ x ∷ []))
+                    ⊎ ((t : List ℕ) × Shifts t (p ++ x ∷ []) × Unreadable m t))
     kind p x (inl (false, e, k)) = inl (inl (wrong_high x k))
     kind p x (inl (true, e, k)) = elim (wrong_second x k) [
       | inl h ↦ let i =
@@ -462,8 +476,8 @@ shift_meaning m l = record {
     as_form s t (inl h) = inl (shifts_in_form t s h)
     as_form s t (inr h) = inr (h.0, 0x19, h.1, refl, shifts_in_form t h.0 h.2)
 
-    cannot : (b : Bool) (p : List ℕ) (x : ℕ) → CannotFollow p x → ends shift_bytes false p ≡ clean
-        → shift_step false x ≡ None
+    cannot : (b : Bool) (p : List ℕ) (x : ℕ) → CannotFollow p x
+        → ends shift_bytes false p ≡ clean → shift_step false x ≡ None
     cannot b p x (inl h) e = no_high false x h
     cannot b p x (inr h) e =
         let g = in_form_reads shift_agrees h.1 h.0 (shifts_in_form h.1 h.0 h.3) in

@@ -1,6 +1,7 @@
 -- The pages that a builder holds.
-use Rattle.std.proofs.Common.{◌≡◌, ℕ, ◌+◌, ◌≤◌, List, [], ◌∷◌, ◌++◌, length, take, drop, sum_by}
-use Rattle.std.proofs.Common.{refl, sym, ap, subst, append_assoc, arith}
+use Rattle.std.proofs.Common.{◌≡◌, ℕ, ◌+◌, ◌≤◌, List, [], ◌∷◌, ◌++◌}
+use Rattle.std.proofs.Common.{length, take, drop, sum_by, refl, sym, ap, subst, append_assoc}
+use Rattle.std.proofs.Common.{arith}
 use Rattle.std.specs.Prelude.{All}
 use Rattle.std.proofs.lemmas.List.Elements.{All-nil, All-cons, All-head, All-tail}
 use Rattle.std.proofs.lemmas.Grind.{common_steps}
@@ -33,7 +34,8 @@ pages_joined-pages_in (e ∷ es) bs h =
     rw (pages_joined-pages_in es (drop e.size bs) (rest_adds_up e es bs h))
     (take-append-drop e.size bs)
 
-pub pages_in_push : (es : List NewEntry) (bs : List ℕ) (e : NewEntry) (page : List ℕ) → AddUp es bs
+pub pages_in_push : (es : List NewEntry) (bs : List ℕ) (e : NewEntry) (page : List ℕ)
+    → AddUp es bs
     → e.size ≡ length page → pages_in (es ++ e ∷ []) (bs ++ page) ≡ pages_in es bs
     ++ record { form = e.form; bytes = page } ∷ []
 pages_in_push [] bs e page h k =
@@ -49,7 +51,8 @@ pub index_from-pages_in : (o : ℕ) (es : List NewEntry) (bs : List ℕ) → Add
     → index_from o (pages_in es bs) ≡ index_of o es
 index_from-pages_in o [] bs h = grind (arith, common_steps)
 index_from-pages_in o (e ∷ es) bs h =
-    let t : length (take e.size bs) ≡ e.size = grind (arith, common_steps, first_fits e es bs h) in
+    let t : length (take e.size bs) ≡ e.size = grind (arith, common_steps, first_fits e es bs h)
+        in
     rw (t, index_from-pages_in (o + e.size) es (drop e.size bs) (rest_adds_up e es bs h)) refl
 
 pub packed-pages_in : (es : List NewEntry) (bs : List ℕ) → AddUp es bs

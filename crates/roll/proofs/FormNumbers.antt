@@ -1,5 +1,6 @@
 -- A form of text has a number of its own, and none has 0.
-use Rattle.std.proofs.Common.{◌≡◌, ℕ, ◌<◌, cond, ◌==◌, refl, sym, ap, ◌∙◌, arith}
+use Rattle.std.proofs.Common.{◌≡◌, ℕ, ◌<◌, cond, ◌==◌, refl, sym, ap, ◌∙◌}
+use Rattle.std.proofs.Common.{arith}
 use Rattle.roll.specs.declared.page.Form.{Form}
 use Rattle.roll.specs.declared.page.Form.TheVariants.{EightBit, SevenBit, SevenBitParity, Latin10}
 use Rattle.roll.specs.declared.page.Form.TheVariants.{Sami, Unicode, Basic}

@@ -1,7 +1,8 @@
 -- A packed roll keeps every rule, and its pages are those that were packed.
-use Rattle.std.proofs.Common.{◌≡◌, ℕ, zero, suc, ◌+◌, ◌-◌, ◌*◌, ◌<◌, ◌≤◌, true, List, [], ◌∷◌, ◌++◌}
-use Rattle.std.proofs.Common.{length, take, drop, refl, sym, ap, ◌∙◌, append_assoc, arith}
-use Rattle.std.proofs.Common.{length-append, zero-add, inl, inr, subst}
+use Rattle.std.proofs.Common.{◌≡◌, ℕ, zero, suc, ◌+◌, ◌-◌, ◌*◌, ◌<◌}
+use Rattle.std.proofs.Common.{◌≤◌, true, List, [], ◌∷◌, ◌++◌, length, take, drop}
+use Rattle.std.proofs.Common.{refl, sym, ap, ◌∙◌, append_assoc, arith, length-append}
+use Rattle.std.proofs.Common.{zero-add, inl, inr, subst}
 use Rattle.std.specs.Prelude.{Some, slice_get, slice_index, All, ◌==◌}
 use Rattle.std.proofs.Math.Seq.{drop-append_seam, take-append_seam}
 use Rattle.std.proofs.lemmas.List.{get_or-append-add, get_or_append_left, length-take-le, take_all}
@@ -23,7 +24,8 @@ at_after : (xs ys : List ℕ) (n i : ℕ) → n ≡ length xs + i
     → slice_index (xs ++ ys) n ≡ slice_index ys i
 at_after xs ys n i e = rw e (get_or-append-add xs ys i 0)
 
-word_after : (xs ys : List ℕ) (n i : ℕ) → n ≡ length xs + i → word (xs ++ ys) n ≡ word ys i
+word_after : (xs ys : List ℕ) (n i : ℕ) → n ≡ length xs + i
+    → word (xs ++ ys) n ≡ word ys i
 word_after xs ys n i e =
     rw (
       at_after xs ys n i e,
@@ -65,7 +67,8 @@ split_at (x ∷ ps) (suc k) p h = ap (λ z. x ∷ z) (split_at ps k p h)
 
 -- where a page ends
 ends_at : (ps : List PackedPage) (k : ℕ) (p : PackedPage) → slice_get ps k ≡ Some p
-    → length (pages_joined (take (suc k) ps)) ≡ length (pages_joined (take k ps)) + length p.bytes
+    → length (pages_joined (take (suc k) ps))
+        ≡ length (pages_joined (take k ps)) + length p.bytes
 ends_at [] k p h = cc
 ends_at (x ∷ ps) zero p h =
     let e : x ≡ p = cc in
@@ -187,7 +190,8 @@ module _ (ps : List PackedPage) where
         ∙ take-append_seam p.bytes (after ++ rest)))
 
   -- where the first pages end
-  packed_starts : (k : ℕ) → k ≤ length ps → starts (packed ps) k ≡ length (pages_joined (take k ps))
+  packed_starts : (k : ℕ) → k ≤ length ps
+      → starts (packed ps) k ≡ length (pages_joined (take k ps))
   packed_starts zero l = refl
   packed_starts (suc k) l =
       elim (slice_get_cases ps k).1 [
@@ -237,7 +241,8 @@ packed_is_roll ps fits =
     let none = packed_none ps in
     let entries = packed_entries ps fits.forms in
     let ends : sizes b (page_count b) ≡ index_offset b =
-    sym (starts_sizes b (page_count b) entries) ∙ starts_last b (page_count b) refl none entries in
+    sym (starts_sizes b (page_count b) entries) ∙ starts_last b (page_count b) refl none entries
+        in
     record {
       accepted = record {
         sized = (omega (arith, packed_length ps), omega (arith, packed_length ps, fits.short));

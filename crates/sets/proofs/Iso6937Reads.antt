@@ -1,6 +1,6 @@
 -- What ISO/IEC 6937 cannot read, and why.
-use Rattle.std.proofs.Common.{◌≡◌, ℕ, ◌<◌, ◌≤◌, true, List, [], ◌∷◌, length, get_or, is_some, None}
-use Rattle.std.proofs.Common.{refl, ap, arith}
+use Rattle.std.proofs.Common.{◌≡◌, ℕ, ◌<◌, ◌≤◌, true, List, [], ◌∷◌}
+use Rattle.std.proofs.Common.{length, get_or, is_some, None, refl, ap, arith}
 use Rattle.charset.specs.Meaning.{Unreadable}
 use Rattle.charset.proofs.FrontLemmas.{unreadable_here}
 use Rattle.sets.specs.declared.cause.Cause.TheVariants.{NotInUse, NoPair}
@@ -12,7 +12,8 @@ pub not_in_use : (s : List ℕ) → 0 < length s → single (get_or s 0 0) ≡ N
     → letters_of (get_or s 0 0) ≡ None
     → Unreadable iso6937 s × (refusal NotInUse ≡ iso6937_causes s)
 not_in_use [] h e f = absurd (omega arith)
-not_in_use (b ∷ s) h e f = (unreadable_here iso6937_laws (b ∷ s) 0 refl e (ap is_some f), rw f refl)
+not_in_use (b ∷ s) h e f =
+    (unreadable_here iso6937_laws (b ∷ s) 0 refl e (ap is_some f), rw f refl)
 
 pub no_pair : (s : List ℕ) → 2 ≤ length s → is_some (letters_of (get_or s 0 0)) ≡ true
     → pair (get_or s 0 0) (get_or s 1 0) ≡ None

@@ -1,6 +1,6 @@
 -- What a set of single bytes cannot read.
-use Rattle.std.proofs.Common.{◌≡◌, ℕ, ◌<◌, true, List, [], ◌∷◌, length, slice_index, None, refl}
-use Rattle.std.proofs.Common.{arith}
+use Rattle.std.proofs.Common.{◌≡◌, ℕ, ◌<◌, true, List, [], ◌∷◌, length}
+use Rattle.std.proofs.Common.{slice_index, None, refl, arith}
 use Rattle.charset.specs.Meaning.{Unreadable}
 use Rattle.charset.proofs.FrontLemmas.{unreadable_here}
 use Rattle.sets.specs.Columns.{character_at, one_to_one}

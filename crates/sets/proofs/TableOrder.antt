@@ -1,6 +1,6 @@
 -- The code's table of the diacritics has the small letters first, and answers as Table 4 does.
-use Rattle.std.proofs.Common.{◌≡◌, ℕ, Bool, true, false, ◌&&◌, List, [], ◌∷◌, is_some}
-use Rattle.std.proofs.Common.{Some, None, Option, ◌==◌, refl, sym, ◌∙◌, ap}
+use Rattle.std.proofs.Common.{◌≡◌, ℕ, Bool, true, false, ◌&&◌, List, [], ◌∷◌}
+use Rattle.std.proofs.Common.{is_some, Some, None, Option, ◌==◌, refl, sym, ◌∙◌, ap}
 use Rattle.std.specs.Option.{option_map}
 use Rattle.std.proofs.lemmas.Bool.{and_parts, eqb-true}
 use Rattle.sets.specs.Search.{when, or_else, first_in}
@@ -41,7 +41,8 @@ accented_there : (ps qs : List (ℕ × ℕ)) → every (found_in qs) ps ≡ true
 accented_there ps qs ok l c e =
     let h = found_passes (found_in qs) (by_letter l) ps c ok e in go h.0 h.1 h.2
   where
-    go : (p : ℕ × ℕ) → found_in qs p ≡ true → by_letter l p ≡ Some c → accented l qs ≡ Some c
+    go : (p : ℕ × ℕ) → found_in qs p ≡ true → by_letter l p ≡ Some c
+        → accented l qs ≡ Some c
     go p t f =
         let same = when_some p.0 l p.1 c f in
         let both = and_parts (is_character p.1 (accented p.0 qs))
@@ -53,7 +54,8 @@ letter_there : (ps qs : List (ℕ × ℕ)) → every (found_in qs) ps ≡ true �
 letter_there ps qs ok c l e =
     let h = found_passes (found_in qs) (by_character c) ps l ok e in go h.0 h.1 h.2
   where
-    go : (p : ℕ × ℕ) → found_in qs p ≡ true → by_character c p ≡ Some l → letter_of c qs ≡ Some l
+    go : (p : ℕ × ℕ) → found_in qs p ≡ true → by_character c p ≡ Some l
+        → letter_of c qs ≡ Some l
     go p t f =
         let same = when_some p.1 c p.0 l f in
         let both = and_parts (is_character p.1 (accented p.0 qs))
@@ -100,7 +102,8 @@ letters_alike mark (d ∷ ds) (e ∷ es) ok =
 
 pairs_alike : (c : ℕ) (ds : List Diacritic) (es : List (ℕ × List (ℕ × ℕ)))
     → same_table ds es ≡ true
-    → first_in (λ d. option_map {U = ℕ × ℕ} (λ l. (d.mark, l)) (letter_of c d.letters.now)) ds
+    → first_in (λ d. option_map {U = ℕ × ℕ} (λ l. (d.mark, l)) (letter_of c d.letters.now))
+        ds
     ≡ first_in (λ e. option_map (λ l. (e.0, l)) (letter_of c e.1)) es
 pairs_alike c [] [] ok = refl
 pairs_alike c [] (e ∷ es) ok = cc
@@ -124,7 +127,8 @@ pub code_letters : {A : Type 0} (f : A → List (ℕ × ℕ)) (mark : ℕ) (o : 
     (ds : List Diacritic)
     → option_map f o ≡ first_in (λ d. when (d.mark == mark) d.letters.now) ds
     → same_table ds diacritics ≡ true
-    → (is_some o ≡ is_some (letters_of mark)) × ((l : ℕ) → among l (option_map f o) ≡ pair mark l)
+    → (is_some o ≡ is_some (letters_of mark))
+        × ((l : ℕ) → among l (option_map f o) ≡ pair mark l)
 code_letters f mark o ds e ok =
     let same = letters_alike mark ds diacritics ok in (
       is_some-map f o ∙ ap is_some e ∙ same.known,

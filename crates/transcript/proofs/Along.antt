@@ -1,7 +1,7 @@
 -- Offers of a text, sector after sector, and what they come to.
-use Rattle.std.proofs.Common.{◌≡◌, ℕ, ◌+◌, ◌≤◌, List, [], ◌∷◌, ◌++◌, length, take, drop, Some, None}
-use Rattle.std.proofs.Common.{Ok, Err, Option, sym, refl, ap, ◌∙◌, subst, arith, length-append}
-use Rattle.std.proofs.Common.{take_at, drop_at}
+use Rattle.std.proofs.Common.{◌≡◌, ℕ, ◌+◌, ◌≤◌, List, [], ◌∷◌, ◌++◌}
+use Rattle.std.proofs.Common.{length, take, drop, Some, None, Ok, Err, Option, sym, refl, ap}
+use Rattle.std.proofs.Common.{◌∙◌, subst, arith, length-append, take_at, drop_at}
 use Rattle.std.proofs.lemmas.Bool.Decides.{nat_tests}
 use Rattle.charset.specs.declared.Reading.TheVariants.{Found}
 use Rattle.charset.specs.Meaning.{Meaning, Laws}
@@ -44,13 +44,15 @@ along_none S T bytes s e =
     })
 
 -- within the limits
-pub within : (taken : ℕ) (sector out : List ℕ) → length sector ≤ 4096 → length out ≤ 65536
-    → taken + length sector ≤ 4294967296 → limits taken sector out ≡ None
+pub within : (taken : ℕ) (sector out : List ℕ) → length sector ≤ 4096
+    → length out ≤ 65536 → taken + length sector ≤ 4294967296
+    → limits taken sector out ≡ None
 within taken sector out a b c = grind (arith, nat_tests)
 
 -- a text that is spelt up to an offset, and ends there
 pub up_to : (S T : Meaning) (bytes text spelt rest chars : List ℕ) (count offset : ℕ)
-    (stop : Option Fault) → bytes ≡ spelt ++ rest → length spelt ≡ offset → count ≡ length chars
+    (stop : Option Fault) → bytes ≡ spelt ++ rest → length spelt ≡ offset
+        → count ≡ length chars
     → Spells S chars spelt → Spells T chars text → Ends S T rest stop
     → Transcribed S T bytes text count offset stop
 up_to S T bytes text spelt rest chars count offset stop whole size counted from into e = record {
@@ -58,18 +60,20 @@ up_to S T bytes text spelt rest chars count offset stop whole size counted from 
   counted = counted;
   inside = omega (arith, ap length whole ∙ length-append spelt rest);
   from =
-      subst (λ z. Spells S chars z) (sym (ap (take offset) whole ∙ take_at spelt rest offset size))
+      subst (λ z. Spells S chars z)
+          (sym (ap (take offset) whole ∙ take_at spelt rest offset size))
       from;
   into = into;
   ends =
-      subst (λ z. Ends S T z stop) (sym (ap (drop offset) whole ∙ drop_at spelt rest offset size))
+      subst (λ z. Ends S T z stop)
+          (sym (ap (drop offset) whole ∙ drop_at spelt rest offset size))
       e;
 }
 
 module _ {S : Meaning} (T : Meaning) (l : Laws S) where
   -- where an offer faults, the text ends
-  pub ends_on : (f : Fault) (rest more : List ℕ) (used room : ℕ) → Stops S T rest used room (Err f)
-      → Ends S T (rest ++ more) (Some f)
+  pub ends_on : (f : Fault) (rest more : List ℕ) (used room : ℕ)
+      → Stops S T rest used room (Err f) → Ends S T (rest ++ more) (Some f)
   ends_on (Unread q) rest more used room h = reads_on l rest more (Err q) (λ e. cc) h
   ends_on (Unwritten c) rest more used room h =
       (h.0, reads_on l rest more (Ok (Found c h.0)) (λ e. cc) h.1, h.2)

@@ -1,7 +1,8 @@
 -- Every offer has an answer, and one only.
-use Rattle.std.proofs.Common.{◌≡◌, ℕ, zero, suc, ◌+◌, ◌<◌, ◌≤◌, ◌⊎◌, List, [], ◌∷◌, ◌++◌, length}
-use Rattle.std.proofs.Common.{take, drop, Some, None, Ok, Err, Option, sym, refl, ◌∙◌, inl, inr}
-use Rattle.std.proofs.Common.{arith, length-drop, length-take}
+use Rattle.std.proofs.Common.{◌≡◌, ℕ, zero, suc, ◌+◌, ◌<◌, ◌≤◌, ◌⊎◌}
+use Rattle.std.proofs.Common.{List, [], ◌∷◌, ◌++◌, length, take, drop, Some, None, Ok}
+use Rattle.std.proofs.Common.{Err, Option, sym, refl, ◌∙◌, inl, inr, arith, length-drop}
+use Rattle.std.proofs.Common.{length-take}
 use Rattle.std.proofs.lemmas.Bool.{cases_lt}
 use Rattle.charset.specs.declared.Reading.TheVariants as reading
 use Rattle.charset.specs.Meaning.{Meaning, Laws}
@@ -57,8 +58,8 @@ module _ (S T : Meaning) (l : Laws S) where
       by_reading (Ok (reading.Found c n)) r = by_coding c n r (T.codings.string c) refl
       by_reading (Err q) r = stopped (Err (Unread q)) r
 
-  reached : (fuel : ℕ) (input cs source target rest : List ℕ) (room : ℕ) → length rest ≤ fuel
-      → Leads S T input room cs source target rest → Reached input room
+  reached : (fuel : ℕ) (input cs source target rest : List ℕ) (room : ℕ)
+      → length rest ≤ fuel → Leads S T input room cs source target rest → Reached input room
   reached zero input cs source target rest room small h =
       elim (turn input cs source target rest room h) [
         | inl g ↦ g
@@ -71,7 +72,8 @@ module _ (S T : Meaning) (l : Laws S) where
       ]
 
   answered : (s : Snapshot) (sector out : List ℕ)
-      → (r : OfferAnswer) × (after : List ℕ) × (t : Snapshot) × Offered S T s sector out r after t
+      → (r : OfferAnswer) × (after : List ℕ) × (t : Snapshot)
+          × Offered S T s sector out r after t
   answered s sector out = go (refused s.state s.taken sector out)
     where
       worked : Reached (s.held ++ sector) (length out)
@@ -107,7 +109,8 @@ module _ (S T : Meaning) (l : Laws S) where
   one_answer s t t' sector out after after' r r' p q = go (refused s.state s.taken sector out) p q
     where
       go : (o : Option Refusal) → OfferedIf o S T s sector out r after t
-          → OfferedIf o S T s sector out r' after' t' → (r ≡ r') × (after ≡ after') × (t ≡ t')
+          → OfferedIf o S T s sector out r' after' t'
+          → (r ≡ r') × (after ≡ after') × (t ≡ t')
       go (Some x) p q = (p.0 ∙ sym q.0, p.1 ∙ sym q.1, p.2 ∙ sym q.2)
       go None p q =
           let one = one_end S T l (s.held ++ sector) p.chars p.source p.target q.chars q.source

@@ -1,8 +1,8 @@
 -- What was written reads back, and the law of every transcript.
-use Rattle.std.proofs.Common.{◌≡◌, ℕ, ◌+◌, ◌≤◌, Bool, true, false, cond, ltb, List, [], ◌∷◌, ◌++◌}
-use Rattle.std.proofs.Common.{length, take, drop, Some, None, Ok, Err, sym, refl, ap, ◌∙◌, subst}
-use Rattle.std.proofs.Common.{inl, inr, append_assoc, append-nil, arith, length-append}
-use Rattle.std.proofs.Common.{take-append-drop, length-take}
+use Rattle.std.proofs.Common.{◌≡◌, ℕ, ◌+◌, ◌≤◌, Bool, true, false, cond, ltb}
+use Rattle.std.proofs.Common.{List, [], ◌∷◌, ◌++◌, length, take, drop, Some, None, Ok}
+use Rattle.std.proofs.Common.{Err, sym, refl, ap, ◌∙◌, subst, inl, inr, append_assoc}
+use Rattle.std.proofs.Common.{append-nil, arith, length-append, take-append-drop, length-take}
 use lib.Seq.{take-append_seam}
 use Rattle.std.proofs.lemmas.Bool.{both_ways, ltb-true}
 use Rattle.std.proofs.lemmas.List.{nil_from_length}
@@ -78,8 +78,8 @@ module _ (S T : Meaning) (l : Laws S) where
   harmless (Err Unfinished) es e rest more used room p q h = h
 
   -- w is characters in codings of S, which T codes too; what is behind its first characters is such
-  tail : (cs ds a w v p : List ℕ) → Spells S cs w → Spells T cs v → Spells S ds a → w ≡ a ++ p
-      → Tail S T p
+  tail : (cs ds a w v p : List ℕ) → Spells S cs w → Spells T cs v → Spells S ds a
+      → w ≡ a ++ p → Tail S T p
   tail cs ds a w v p h k g e = elim (fronts l ds cs a w p [] g h (sym e ∙ sym (append-nil w))) [
     | inl f ↦ (
       f.0,
@@ -87,12 +87,15 @@ module _ (S T : Meaning) (l : Laws S) where
       rw (f.4, append-nil) f.3,
       (spells_split T ds f.0 v (rw (← f.2) k)).3,
     )
-    | inr f ↦ ([], [], nil_from_length p (omega (arith, ap length f.4, length-append f.1 p)), refl)
+    | inr f ↦
+        ([], [], nil_from_length p (omega (arith, ap length f.4, length-append f.1 p)), refl)
   ]
 
-  module _ (cs w v : List ℕ) (h : Spells S cs w) (k : Spells T cs v) (small : length w ≤ 4294967296)
+  module _ (cs w v : List ℕ) (h : Spells S cs w) (k : Spells T cs v)
+      (small : length w ≤ 4294967296)
     where
-      goes_on : (t : Snapshot) (sector out : List ℕ) (r : OfferAnswer) (after : List ℕ) (x : End)
+      goes_on : (t : Snapshot) (sector out : List ℕ) (r : OfferAnswer) (after : List ℕ)
+          (x : End)
           (o n y : ℕ) → Harmless x → r ≡ answers x o n y → t.state ≡ state_after x o n y
           → Faultless (offer sector out r after) × (t.state ≡ Open)
       goes_on t sector out r after (Ok pause.Open) o n y g a p = (inl (rw a), p)

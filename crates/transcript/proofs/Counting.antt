@@ -1,6 +1,7 @@
 -- A run of characters as the work of an offer.
-use Rattle.std.proofs.Common.{◌≡◌, ℕ, ◌*◌, ◌≤◌, List, [], ◌∷◌, ◌++◌, length, drop, None, Ok, sym}
-use Rattle.std.proofs.Common.{refl, ap, ◌∙◌, subst, arith, length-append}
+use Rattle.std.proofs.Common.{◌≡◌, ℕ, ◌*◌, ◌≤◌, List, [], ◌∷◌, ◌++◌}
+use Rattle.std.proofs.Common.{length, drop, None, Ok, sym, refl, ap, ◌∙◌, subst, arith}
+use Rattle.std.proofs.Common.{length-append}
 use lib.Seq.{drop-append_seam}
 use Rattle.std.proofs.lemmas.Bool.Decides.{nat_tests}
 use Rattle.charset.specs.Meaning.{Meaning, Laws}
@@ -66,6 +67,7 @@ module _ (S T : Meaning) (l : Laws S) (k : Laws T) (s : Snapshot) (sector out af
       }
 
   pub offered_open : limits s.taken sector out ≡ None → (r : OfferAnswer) (t : Snapshot)
-      → Settles s sector run end r t → OfferedIf (limits s.taken sector out) S T s sector out r after t
+      → Settles s sector run end r t
+      → OfferedIf (limits s.taken sector out) S T s sector out r after t
   offered_open e r t st =
       subst (λ o. OfferedIf o S T s sector out r after t) (sym e) (worked r t st)

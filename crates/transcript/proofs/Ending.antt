@@ -1,6 +1,7 @@
 -- The end of a text: its last offer faulted, or all is taken and the transcript is closed.
-use Rattle.std.proofs.Common.{◌≡◌, ℕ, ◌+◌, ◌-◌, List, [], ◌∷◌, ◌++◌, length, Some, None, Ok, Err}
-use Rattle.std.proofs.Common.{sym, refl, ap, ◌∙◌, subst, inl, inr, arith, length-append, append-nil}
+use Rattle.std.proofs.Common.{◌≡◌, ℕ, ◌+◌, ◌-◌, List, [], ◌∷◌, ◌++◌}
+use Rattle.std.proofs.Common.{length, Some, None, Ok, Err, sym, refl, ap, ◌∙◌, subst, inl}
+use Rattle.std.proofs.Common.{inr, arith, length-append, append-nil}
 use Rattle.charset.specs.Meaning.{Meaning, Laws}
 use Rattle.charset.specs.Decoding.{Spells}
 use Rattle.conversion.specs.declared.Fault.TheVariants.{Unfinished}
@@ -50,7 +51,8 @@ module _ (S T : Meaning) (l : Laws S) (bytes text : List ℕ) where
     },
   )
 
-  module _ (rest : List ℕ) (s : Snapshot) (along : Along S T bytes text rest s) (all : rest ≡ [])
+  module _ (rest : List ℕ) (s : Snapshot) (along : Along S T bytes text rest s)
+      (all : rest ≡ [])
     where
       before : StandsOn S T (taken_in along.offers) (written_in along.offers) s
       before = stands S T l along.used

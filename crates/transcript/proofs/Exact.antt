@@ -1,7 +1,8 @@
 -- An offer tells of an end exactly when characters that fit lead to it, and a closing is accepted
 -- exactly when nothing is held.
-use Rattle.std.proofs.Common.{◌≡◌, ◌≢◌, ◌↔◌, ℕ, ◌+◌, ◌-◌, List, [], ◌∷◌, ◌++◌, length, take, None}
-use Rattle.std.proofs.Common.{Ok, Err, inl, inr, refl, sym, ap, ◌∙◌, subst, arith, length-append}
+use Rattle.std.proofs.Common.{◌≡◌, ◌≢◌, ◌↔◌, ℕ, ◌+◌, ◌-◌, List, []}
+use Rattle.std.proofs.Common.{◌∷◌, ◌++◌, length, take, None, Ok, Err, inl, inr, refl}
+use Rattle.std.proofs.Common.{sym, ap, ◌∙◌, subst, arith, length-append}
 use lib.Seq.{take-append_seam}
 use Rattle.charset.specs.Meaning.{Meaning, IsOpening, Laws}
 use Rattle.conversion.specs.declared.Fault.TheVariants.{Unread, Unwritten, Unfinished}
@@ -39,7 +40,8 @@ at_six (Err (Unread q)) o n w e = refl
 at_six (Err (Unwritten c)) o n w e = cc
 at_six (Err Unfinished) o n w e = cc
 
-at_eight : (k : End) (o n w : ℕ) → (told_of (answers k o n w)).number ≡ 8 → k ≡ Ok pause.Full
+at_eight : (k : End) (o n w : ℕ) → (told_of (answers k o n w)).number ≡ 8
+    → k ≡ Ok pause.Full
 at_eight (Ok pause.Open) o n w e = cc
 at_eight (Ok pause.Full) o n w e = refl
 at_eight (Err (Unread q)) o n w e = cc
@@ -56,10 +58,11 @@ unless_some (c ∷ cs) held e = refl
 
 module _ (S T : Meaning) (l : Laws S) where
   takes_all : (k : End) (o n w used room : ℕ) (held sector source rest : List ℕ)
-      → Stops S T rest used room k
-      → ((told_of (answers k o n w)).number ≡ 6 → ⊥) → ((told_of (answers k o n w)).number ≡ 7 → ⊥)
+      → Stops S T rest used room k → ((told_of (answers k o n w)).number ≡ 6 → ⊥)
+      → ((told_of (answers k o n w)).number ≡ 7 → ⊥)
       → ((told_of (answers k o n w)).number ≡ 8 → ⊥)
-      → ((told_of (answers k o n w)).number ≡ 0) × (takes k held sector source ≡ length sector)
+      → ((told_of (answers k o n w)).number ≡ 0)
+          × (takes k held sector source ≡ length sector)
   takes_all (Ok pause.Open) o n w used room held sector source rest st a b c = (refl, refl)
   takes_all (Ok pause.Full) o n w used room held sector source rest st a b c = absurd (c refl)
   takes_all (Err (Unread q)) o n w used room held sector source rest st a b c = absurd (a refl)
@@ -138,8 +141,9 @@ module _ (S T : Meaning) (l : Laws S) where
     by_end (Err Unfinished) chars source target h a w p q = absurd h.stops
 
     -- the end and the characters are the only ones
-    moved : (j k : End) (cs chars a source b target : List ℕ) → k ≡ j → chars ≡ cs → source ≡ a
-        → target ≡ b → ComesTo S T s sector out r after t k chars source target
+    moved : (j k : End) (cs chars a source b target : List ℕ) → k ≡ j → chars ≡ cs
+        → source ≡ a → target ≡ b
+        → ComesTo S T s sector out r after t k chars source target
         → ComesTo S T s sector out r after t j cs a b
     moved j k cs chars a source b target e f g i h =
         subst (λ z. ComesTo S T s sector out r after t z cs a b) e
@@ -187,8 +191,8 @@ module _ (S T : Meaning) (l : Laws S) where
   pub closes_exactly : ClosesExactly S T
   closes_exactly s r made = go s.state s.held refl made.is_open made.step
     where
-      go : (q : State) (h : List ℕ) → s.held ≡ h → q ≡ Open → ClosedOn q h s r made.after
-          → (r ≡ Ok tt) ↔ (s.held ≡ [])
+      go : (q : State) (h : List ℕ) → s.held ≡ h → q ≡ Open
+          → ClosedOn q h s r made.after → (r ≡ Ok tt) ↔ (s.held ≡ [])
       go Open [] e q c = (λ _. e, λ _. c.0)
       go Open (b ∷ bs) e q c = (λ k. let x = c.0 in cc, λ k. cc)
       go (Faulted f) h e q c = cc

@@ -1,7 +1,8 @@
 -- After every call the bytes taken and written are the same characters.
-use Rattle.std.proofs.Common.{◌≡◌, ℕ, ◌+◌, ◌-◌, ◌<◌, ◌≤◌, List, [], ◌∷◌, ◌++◌, length, take, Some}
-use Rattle.std.proofs.Common.{None, Ok, Err, Option, sym, refl, ap, ◌∙◌, append_assoc, append-nil}
-use Rattle.std.proofs.Common.{arith, length-append, length-take-le}
+use Rattle.std.proofs.Common.{◌≡◌, ℕ, ◌+◌, ◌-◌, ◌<◌, ◌≤◌, List, []}
+use Rattle.std.proofs.Common.{◌∷◌, ◌++◌, length, take, Some, None, Ok, Err, Option, sym}
+use Rattle.std.proofs.Common.{refl, ap, ◌∙◌, append_assoc, append-nil, arith, length-append}
+use Rattle.std.proofs.Common.{length-take-le}
 use lib.Seq.{take-append_seam, take-append-add, take-length}
 use Rattle.std.proofs.lemmas.Bool.Decides.{nat_tests}
 use Rattle.charset.specs.Meaning.{Meaning, IsOpening, Laws}
@@ -22,7 +23,8 @@ use Rattle.transcript.specs.Law.{StandsOn, Stands}
 
 -- the part of the sector that goes with held bytes
 pub taken_part : (held sector source rest : List ℕ) → held ++ sector ≡ source ++ rest
-    → length held ≤ length source → held ++ take (length source - length held) sector ≡ source
+    → length held ≤ length source
+    → held ++ take (length source - length held) sector ≡ source
 taken_part held sector source rest e h =
     let n_is : length held + (length source - length held) ≡ length source = omega arith in
     sym (take-append-add held sector (length source - length held))
@@ -36,7 +38,8 @@ module _ (bytes spelt held part source rest : List ℕ) (p : bytes ≡ spelt ++ 
       ap (λ t. t ++ part) p ∙ append_assoc spelt held part ∙ ap (λ t. spelt ++ t) e
       ∙ sym (append_assoc spelt source rest)
 
-  pub regroup_more : (more : List ℕ) → bytes ++ (part ++ more) ≡ (spelt ++ source) ++ (rest ++ more)
+  pub regroup_more : (more : List ℕ)
+      → bytes ++ (part ++ more) ≡ (spelt ++ source) ++ (rest ++ more)
   regroup_more more =
       sym (append_assoc bytes part more) ∙ ap (λ t. t ++ more) regroup
       ∙ append_assoc (spelt ++ source) rest more
@@ -59,9 +62,9 @@ refusal_tells (Faulted f) n sector out q e = grind arith
 refusal_tells Closed n sector out q e = grind arith
 
 module _ (S T : Meaning) (l : Laws S) where
-  abbrev stands_by : (bytes out : List ℕ) (s : Snapshot) (cs : List ℕ) → Decodes S bytes cs s.held
-      → Spells T cs out → s.taken ≡ length bytes → s.written ≡ length out → s.characters ≡ length cs
-      → StandsOn S T bytes out s
+  abbrev stands_by : (bytes out : List ℕ) (s : Snapshot) (cs : List ℕ)
+      → Decodes S bytes cs s.held → Spells T cs out → s.taken ≡ length bytes
+      → s.written ≡ length out → s.characters ≡ length cs → StandsOn S T bytes out s
   stands_by bytes out s cs m w a b c = record {
     chars = cs;
     decodes = m;
@@ -93,7 +96,8 @@ module _ (S T : Meaning) (l : Laws S) where
 
   -- the first character read is longer than what was held
   pub source_longer : (held sector chars source rest : List ℕ) (c : ℕ) → IsOpening S held
-      → Spells S (c ∷ chars) source → held ++ sector ≡ source ++ rest → length held < length source
+      → Spells S (c ∷ chars) source → held ++ sector ≡ source ++ rest
+      → length held < length source
   source_longer held sector chars source rest c o p e =
       let long = opening_passed l held sector c (length p.0) o
       (rw (e, p.3, append_assoc, take-append_seam) (l.written c _ p.2)) in
@@ -132,11 +136,11 @@ module _ (S T : Meaning) (l : Laws S) where
       (rw (h.counts_characters, length-append))
 
   -- an offer that something stopped takes the bytes of its characters
-  part : (bytes out : List ℕ) (s : Snapshot) (p : State) (sector chars source target rest : List ℕ)
-      → StandsOn S T bytes out s
+  part : (bytes out : List ℕ) (s : Snapshot) (p : State)
+      (sector chars source target rest : List ℕ) → StandsOn S T bytes out s
       → Spells S chars source → Spells T chars target → s.held ++ sector ≡ source ++ rest
       → StandsOn S T (bytes ++ take (length source - length s.held) sector) (out ++ target)
-      (next s p (length source - length s.held) chars target (unless_any chars s.held))
+          (next s p (length source - length s.held) chars target (unless_any chars s.held))
   part bytes out s p sector [] source target rest h from into e =
       let n_is : length source - length s.held ≡ 0 = rw from (omega arith) in
       rw n_is (grown bytes out s p 0 sector [] source target s.held h from into (omega arith)
@@ -145,12 +149,15 @@ module _ (S T : Meaning) (l : Laws S) where
       let long = source_longer s.held sector chars source rest c h.decodes.opens from e in
       let sizes : length s.held + length sector ≡ length source + length rest =
       sym (length-append s.held sector) ∙ ap length e ∙ length-append source rest in
-      grown bytes out s p (length source - length s.held) sector (c ∷ chars) source target [] h from
+      grown bytes out s p (length source - length s.held) sector (c ∷ chars) source target [] h
+          from
       into (omega arith)
-      (taken_part s.held sector source rest e (omega arith) ∙ sym (append-nil source)) l.empty_opens
+      (taken_part s.held sector source rest e (omega arith) ∙ sym (append-nil source))
+          l.empty_opens
 
   by_end : (bytes out : List ℕ) (s : Snapshot) (p : State)
-      (sector chars source target rest : List ℕ) (room : ℕ) (k : End) → StandsOn S T bytes out s
+      (sector chars source target rest : List ℕ) (room : ℕ) (k : End)
+          → StandsOn S T bytes out s
       → Leads S T (s.held ++ sector) room chars source target rest
       → Stops S T rest (length target) room k
       → StandsOn S T (bytes ++ take (takes k s.held sector source) sector) (out ++ target)
@@ -178,8 +185,8 @@ module _ (S T : Meaning) (l : Laws S) where
       w.end h w.reaches.leads w.reaches.stops in
       rw (w.answer, z.0, z.1, w.left, take-append_seam, w.next) g
 
-  stepping : (past : List Event) (s t : Snapshot) (e : Event) → Step S T s e t → Stands S T past s
-      → Stands S T (e ∷ past) t
+  stepping : (past : List Event) (s t : Snapshot) (e : Event) → Step S T s e t
+      → Stands S T past s → Stands S T (e ∷ past) t
   stepping past s t start p h = rw p fresh_stands
   stepping past s t (offer sector buffer r buffer') p h =
       offering (taken_in past) (written_in past) s t sector buffer r buffer'

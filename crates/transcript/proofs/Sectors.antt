@@ -1,7 +1,8 @@
 -- One sector more: the text goes on, or ends in a fault, and the output is never too small.
-use Rattle.std.proofs.Common.{◌≡◌, ℕ, ◌+◌, ◌<◌, ◌≤◌, min, ◌⊎◌, List, ◌∷◌, ◌++◌, length, take, Some}
-use Rattle.std.proofs.Common.{None, Ok, Err, Result, sym, refl, ap, ◌∙◌, subst, inl, inr}
-use Rattle.std.proofs.Common.{append_assoc, arith, length-append, length-take}
+use Rattle.std.proofs.Common.{◌≡◌, ℕ, ◌+◌, ◌<◌, ◌≤◌, min, ◌⊎◌, List}
+use Rattle.std.proofs.Common.{◌∷◌, ◌++◌, length, take, Some, None, Ok, Err, Result, sym}
+use Rattle.std.proofs.Common.{refl, ap, ◌∙◌, subst, inl, inr, append_assoc, arith}
+use Rattle.std.proofs.Common.{length-append, length-take}
 use lib.Seq.{take-append_seam, take-length}
 use Rattle.std.proofs.lemmas.List.{take_min}
 use Rattle.charset.specs.Meaning.{Meaning, Laws}
@@ -27,7 +28,8 @@ use Rattle.transcript.specs.Carried.{InPieces}
 use Rattle.transcript.proofs.Along.{Along, up_to, within, ends_on}
 
 -- a last offer met a fault
-pub record Stopped (S T : Meaning) (bytes text : List ℕ) (f : FaultAt) (t : Snapshot) : Type 0 where
+pub record Stopped (S T : Meaning) (bytes text : List ℕ) (f : FaultAt) (t : Snapshot) : Type 0
+  where
   pub offers : List Event
   pub used : Use S T offers t
   pub fed : Feeds bytes offers
@@ -52,7 +54,8 @@ ok_end (Ok pause.Full) d o n w h = cc
 ok_end (Err f) d o n w h = cc
 
 err_end : (e : End) (q : Refusal) (o n w : ℕ) → Err q ≡ answers e o n w
-    → (e ≡ Ok pause.Full) ⊎ ((f : Fault) × (e ≡ Err f) × (q ≡ refusal.Faulted (fault_at f o n w)))
+    → (e ≡ Ok pause.Full)
+        ⊎ ((f : Fault) × (e ≡ Err f) × (q ≡ refusal.Faulted (fault_at f o n w)))
 err_end (Ok pause.Open) q o n w h = cc
 err_end (Ok pause.Full) q o n w h = inl refl
 err_end (Err f) q o n w h = inr (f, refl, cc)
@@ -118,10 +121,12 @@ module _ (S T : Meaning) (l : Laws S) (k : Laws T) (bytes text rest : List ℕ) 
       (h : Reaches S T (s.held ++ sector) (length out) e chars source target)
       → bytes ≡ (before.decodes.spelt ++ source) ++ (h.rest ++ more)
   split chars source target e h =
-      whole ∙ regroup_more (taken_in along.offers) before.decodes.spelt s.held sector source h.rest
+      whole ∙ regroup_more (taken_in along.offers) before.decodes.spelt s.held sector source
+          h.rest
       before.decodes.parts h.leads.begins more
 
-  spelt_long : (source : List ℕ) → length (before.decodes.spelt ++ source) ≡ offset_of s source
+  spelt_long : (source : List ℕ)
+      → length (before.decodes.spelt ++ source) ≡ offset_of s source
   spelt_long source =
       let a = length-append before.decodes.spelt source in
       let b = before.counts_taken ∙ ap length before.decodes.parts
@@ -159,7 +164,8 @@ module _ (S T : Meaning) (l : Laws S) (k : Laws T) (bytes text rest : List ℕ) 
       (length w.target) w.answer in
       let all : d.taken ≡ length sector =
       ap (λ z. z.taken) end.1 ∙ ap (λ z. takes z s.held sector w.source) end.0 in
-      let taken : take d.taken sector ≡ sector = ap (λ n. take n sector) all ∙ take-length sector in
+      let taken : take d.taken sector ≡ sector = ap (λ n. take n sector) all
+          ∙ take-length sector in
       record {
         offers = offer sector out (Ok d) after ∷ along.offers;
         used = call along.used st;
@@ -176,8 +182,10 @@ module _ (S T : Meaning) (l : Laws S) (k : Laws T) (bytes text rest : List ℕ) 
       }
 
   faults : (q : Refusal) → Step S T s (offer sector out (Err q) after) t
-      → (w : Worked S T s sector out (Err q) after t) → (f : Fault) → w.end ≡ Err f → (p : FaultAt)
-      → p ≡ fault_at f (offset_of s w.source) (takes w.end s.held sector w.source) (length w.target)
+      → (w : Worked S T s sector out (Err q) after t) → (f : Fault) → w.end ≡ Err f
+      → (p : FaultAt)
+      → p ≡ fault_at f (offset_of s w.source) (takes w.end s.held sector w.source)
+          (length w.target)
       → q ≡ refusal.Faulted p → ComesTo S T bytes text after more t (Err p)
   faults q st w f e p g h =
       let put : take (length w.target) after ≡ w.target =

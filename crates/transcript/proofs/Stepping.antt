@@ -1,6 +1,6 @@
 -- A step between the same sets is a call more of every use.
-use Rattle.std.proofs.Common.{◌≡◌, ℕ, List, ◌∷◌, drop, Some, None, Option, Result, ap, ◌∙◌, refl}
-use Rattle.std.proofs.Common.{sym, length, subst₂}
+use Rattle.std.proofs.Common.{◌≡◌, ℕ, List, ◌∷◌, drop, Some, None, Option, Result}
+use Rattle.std.proofs.Common.{ap, ◌∙◌, refl, sym, length, subst₂}
 use Rattle.std.specs.Borrow.{Bor, MutBor}
 use lib.Seq.{drop-append_seam}
 use Rattle.charset.specs.declared.CharacterSet.{Ghosts}
@@ -44,7 +44,8 @@ module _ {S T : Type 0} {g : Ghosts S} {h : Ghosts T} where
     same_sets = same;
     step = st;
     goes_on = λ past u.
-        subst₂ (λ x y. Use (set_of g x) (set_of h y) (e ∷ past) (come_to new)) (sym same.source)
+        subst₂ (λ x y. Use (set_of g x) (set_of h y) (e ∷ past) (come_to new))
+            (sym same.source)
         (sym same.target) (uses.call {e = e} u st);
     output_stays = output_stays (source_set old) (target_set old) (come_to old) (come_to new) e st;
   }

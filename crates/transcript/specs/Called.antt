@@ -13,7 +13,8 @@ use Rattle.transcript.specs.Uses.{Event, start, offer, close, status}
 
 -- a call as it is seen at the return: its cases in order, as a sum
 abbrev pub Returned : Type 0
-Returned = Unit {0} ⊎ ((Bor (List ℕ) × (MutBor (List ℕ) × Unit {0})) ⊎ (Unit {0} ⊎ (Unit {0} ⊎ ⊥)))
+Returned = Unit {0}
+    ⊎ ((Bor (List ℕ) × (MutBor (List ℕ) × Unit {0})) ⊎ (Unit {0} ⊎ (Unit {0} ⊎ ⊥)))
 
 -- what the output of an offer, the second of its buffers, holds at the return
 abbrev pub output_after : Returned → List ℕ

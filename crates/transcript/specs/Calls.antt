@@ -1,6 +1,6 @@
 -- What each call answers and leaves.
-use Rattle.std.specs.Prelude.{◌≡◌, ℕ, ◌+◌, ◌-◌, cond, List, [], ◌∷◌, ◌++◌, length, drop, Some, None}
-use Rattle.std.specs.Prelude.{Ok, Err, Option, Result, nat_lt}
+use Rattle.std.specs.Prelude.{◌≡◌, ℕ, ◌+◌, ◌-◌, cond, List, [], ◌∷◌}
+use Rattle.std.specs.Prelude.{◌++◌, length, drop, Some, None, Ok, Err, Option, Result, nat_lt}
 use Rattle.charset.specs.Meaning.{Meaning}
 use Rattle.transcript.specs.declared.TheConstants.{LONGEST_SECTOR, LONGEST_OUTPUT, LONGEST_SOURCE}
 use Rattle.conversion.specs.declared.Fault.{Fault}
@@ -105,7 +105,8 @@ pub record Worked (S T : Meaning) (s : Snapshot) (sector out : List ℕ) (r : Of
   pub target : List ℕ
   pub end : End
   pub reaches : Reaches S T (s.held ++ sector) (length out) end chars source target
-  pub answer : r ≡ answers end (offset_of s source) (takes end s.held sector source) (length target)
+  pub answer : r
+      ≡ answers end (offset_of s source) (takes end s.held sector source) (length target)
   pub left : after ≡ target ++ drop (length target) out
   pub next : t ≡ record {
     state = state_after end (offset_of s source) (takes end s.held sector source) (length target);
@@ -115,8 +116,8 @@ pub record Worked (S T : Meaning) (s : Snapshot) (sector out : List ℕ) (r : Of
     held = holds end s.held chars reaches.rest;
   }
 
-abbrev pub OfferedIf : Option Refusal → Meaning → Meaning → Snapshot → List ℕ → List ℕ → OfferAnswer
-    → List ℕ → Snapshot → Type 0
+abbrev pub OfferedIf : Option Refusal → Meaning → Meaning → Snapshot → List ℕ → List ℕ
+    → OfferAnswer → List ℕ → Snapshot → Type 0
 OfferedIf (Some q) S T s sector out r after t = (r ≡ Err q) × (after ≡ out) × (t ≡ s)
 OfferedIf None S T s sector out r after t = Worked S T s sector out r after t
 
@@ -130,7 +131,8 @@ Offered S T s sector out r after t =
 abbrev pub unfinished : Snapshot → FaultAt
 unfinished s = fault_at Unfinished (s.taken - length s.held) 0 0
 
-abbrev pub ClosedOn : State → (held : List ℕ) → Snapshot → CloseAnswer → Snapshot → Type 0
+abbrev pub ClosedOn : State → (held : List ℕ) → Snapshot → CloseAnswer → Snapshot
+    → Type 0
 ClosedOn Closed held s r t = (r ≡ Err refusal.AlreadyClosed) × (t ≡ s)
 ClosedOn (Faulted f) held s r t = (r ≡ Err (refusal.Standing f)) × (t ≡ s)
 ClosedOn Open [] s r t = (r ≡ Ok tt) × (t ≡ with_state s Closed)

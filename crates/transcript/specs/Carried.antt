@@ -1,6 +1,6 @@
 -- What carrying out a use of a transcript on a text comes to.
-use Rattle.std.specs.Prelude.{vec_items, ◌≡◌, ℕ, ◌<◌, ◌⊎◌, List, [], ◌∷◌, ◌++◌, length, take, Some}
-use Rattle.std.specs.Prelude.{None, Option, Ok, Err, Result}
+use Rattle.std.specs.Prelude.{vec_items, ◌≡◌, ℕ, ◌<◌, ◌⊎◌, List, [], ◌∷◌}
+use Rattle.std.specs.Prelude.{◌++◌, length, take, Some, None, Option, Ok, Err, Result}
 use Rattle.charset.specs.Meaning.{Meaning}
 use Rattle.transcript.specs.declared.TheConstants.{LONGEST_SECTOR}
 use Rattle.conversion.specs.declared.Fault.{Fault}
@@ -72,11 +72,13 @@ InPieces bytes (status r ∷ past) = InPieces bytes past
 
 -- after offers of the bytes a last one faulted, or they were all taken and a closing was answered;
 -- then came a status call
-abbrev pub Ended : List ℕ → List Event → List Event → Snapshot → Outcome → Status → Type 0
+abbrev pub Ended : List ℕ → List Event → List Event → Snapshot → Outcome → Status
+    → Type 0
 Ended bytes offers events last outcome told =
     ((f : FaultAt) × (outcome ≡ Err f) × (last.state ≡ state.Faulted f)
     × (events ≡ status told ∷ offers))
-    ⊎ ((taken_in offers ≡ bytes) × (events ≡ status told ∷ (close (refused_by outcome) ∷ offers)))
+    ⊎ ((taken_in offers ≡ bytes)
+        × (events ≡ status told ∷ (close (refused_by outcome) ∷ offers)))
 
 -- a use of a transcript in which the bytes were offered piece after piece, and what it came to
 pub record CarriedOut (S T : Meaning) (bytes text : List ℕ) (characters : ℕ)

@@ -1,5 +1,6 @@
 -- When a text is too long for a transcript, and how it is said.
-use Rattle.std.specs.Prelude.{ℕ, ◌<◌, ◌≤◌, List, ◌++◌, length, Ok, Err, codes, decimal, Result}
+use Rattle.std.specs.Prelude.{ℕ, ◌<◌, ◌≤◌, List, ◌++◌, length, Ok, Err, codes}
+use Rattle.std.specs.Prelude.{decimal, Result}
 use Rattle.transcript.specs.Told.{fault_number}
 use Rattle.transcript.specs.declared.TheConstants.{LONGEST_SOURCE}
 use Rattle.transcript.specs.declared.transcription.Failure.{Failure}
@@ -23,4 +24,5 @@ abbrev pub message : Failure → List ℕ
 message NoMemory = codes "out of memory"
 message TooLong = codes "the text is too long"
 message (Faulted f) =
-    codes "refused " ++ (decimal (fault_number f.fault) ++ (codes " at offset " ++ decimal f.offset))
+    codes "refused "
+        ++ (decimal (fault_number f.fault) ++ (codes " at offset " ++ decimal f.offset))

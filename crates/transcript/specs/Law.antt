@@ -1,6 +1,6 @@
 -- The law of every use of a transcript.
-use Rattle.std.specs.Prelude.{◌≡◌, ℕ, ◌≤◌, ◌⊎◌, List, [], ◌∷◌, ◌++◌, length, take, None, Ok, Err}
-use Rattle.std.specs.Prelude.{◌≢◌, ◌↔◌}
+use Rattle.std.specs.Prelude.{◌≡◌, ℕ, ◌≤◌, ◌⊎◌, List, [], ◌∷◌, ◌++◌}
+use Rattle.std.specs.Prelude.{length, take, None, Ok, Err, ◌≢◌, ◌↔◌}
 use Rattle.charset.specs.Meaning.{Meaning}
 use Rattle.charset.specs.Decoding.{Spells, Decodes}
 use Rattle.transcript.specs.declared.TheConstants.{LONGEST_SOURCE}
@@ -85,7 +85,8 @@ TellsOf (Err Unfinished) offset values = ⊥
 abbrev pub LeavesState : End → OfferAnswer → State → Type 0
 LeavesState (Ok p) answer state = state ≡ Open
 LeavesState (Err fault) answer state =
-    (f : FaultAt) × (f.fault ≡ fault) × (answer ≡ Err (refusal.Faulted f)) × (state ≡ Faulted f)
+    (f : FaultAt) × (f.fault ≡ fault) × (answer ≡ Err (refusal.Faulted f))
+        × (state ≡ Faulted f)
 
 module _ (S T : Meaning) (before : Snapshot) (sector out : List ℕ) (answer : OfferAnswer)
     (out_after : List ℕ) (after : Snapshot) where
@@ -151,7 +152,8 @@ module _ (S T : Meaning) (before : Snapshot) (sector out : List ℕ) (answer : O
     pub comes_to : (end : End) (chars source target : List ℕ)
         → Reaches S T (before.held ++ sector) (length out) end chars source target
         → ComesTo end chars source target
-    pub otherwise : TellsNoStop → ((told_of answer).number ≡ 0) × (took answer ≡ length sector)
+    pub otherwise : TellsNoStop
+        → ((told_of answer).number ≡ 0) × (took answer ≡ length sector)
 
 -- what an offer to an open transcript tells, takes, writes and leaves
 abbrev pub OffersExactly : Meaning → Meaning → Type 0

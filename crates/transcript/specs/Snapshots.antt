@@ -1,6 +1,6 @@
 -- The progress of a transcript as a snapshot, and how it moves on.
-use Rattle.std.specs.Prelude.{◌≡◌, ℕ, zero, suc, ◌+◌, ◌*◌, ◌≤◌, List, [], ◌++◌, length, drop, Some}
-use Rattle.std.specs.Prelude.{None, Option, Ok, Err, Result}
+use Rattle.std.specs.Prelude.{◌≡◌, ℕ, zero, suc, ◌+◌, ◌*◌, ◌≤◌, List, []}
+use Rattle.std.specs.Prelude.{◌++◌, length, drop, Some, None, Option, Ok, Err, Result}
 use Rattle.transcript.specs.declared.TheConstants.{LONGEST_SOURCE}
 use Rattle.conversion.specs.declared.Pause.TheVariants as pause
 use Rattle.conversion.specs.declared.Run.{Run}

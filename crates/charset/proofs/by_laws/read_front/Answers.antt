@@ -6,7 +6,8 @@ use Rattle.charset.proofs.FrontLemmas.{only_answer, four_bytes_decide}
 use Rattle.charset.proofs.Spelling.{decodes_once}
 use Rattle.charset.proofs.by_laws.read_front.Goals as goal
 
-by_laws : (m : Meaning) → Laws m → (s : List ℕ) (r : ReadAnswer) → Reads m s r → ReadByLaws m s r
+by_laws : (m : Meaning) → Laws m → (s : List ℕ) (r : ReadAnswer) → Reads m s r
+    → ReadByLaws m s r
 by_laws m l s r h =
     record {
       reads = h;

@@ -1,4 +1,5 @@
-use Rattle.std.proofs.Common.{◌≡◌, ℕ, List, [], ◌∷◌, None, Ok, Err, Option, subst, ◌∙◌}
+use Rattle.std.proofs.Common.{◌≡◌, ℕ, List, [], ◌∷◌, None, Ok, Err, Option, subst}
+use Rattle.std.proofs.Common.{◌∙◌}
 use Rattle.charset.specs.Sets.{set_of}
 use Rattle.charset.specs.Meaning.{Meaning, Laws}
 use Rattle.conversion.specs.Next.{ComesNext}

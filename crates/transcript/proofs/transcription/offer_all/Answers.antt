@@ -1,5 +1,6 @@
-use Rattle.std.proofs.Common.{◌≡◌, ℕ, ◌<◌, ◌≤◌, min, List, ◌++◌, length, take, Ok, Err, Result}
-use Rattle.std.proofs.Common.{vec_items, sym, refl, ap, ◌∙◌, subst, subst₂, rules}
+use Rattle.std.proofs.Common.{◌≡◌, ℕ, ◌<◌, ◌≤◌, min, List, ◌++◌, length}
+use Rattle.std.proofs.Common.{take, Ok, Err, Result, vec_items, sym, refl, ap, ◌∙◌, subst}
+use Rattle.std.proofs.Common.{subst₂, rules}
 use Rattle.std.specs.Result.{MatchResult, IsErrAnd}
 use Rattle.std.specs.Slice.Iter.{chunks_rest}
 use Rattle.std.proofs.lemmas.List.{nil_from_length}
@@ -24,8 +25,8 @@ use Rattle.transcript.proofs.transcription.offer_all.Goals as goal
 use Rattle.transcript.proofs.transcription.offer_all.Goals.{After-offer, After-close}
 
 -- what is left of an answer where its fault is taken out of its refusal
-mapped : {X : Type 0} {L : Refusal → FaultAt → Type 0} (a : Result X Refusal) (r : Result X FaultAt)
-    → MatchResult a (λ x. r ≡ Ok x) (λ q. IsErrAnd r (L q))
+mapped : {X : Type 0} {L : Refusal → FaultAt → Type 0} (a : Result X Refusal)
+    (r : Result X FaultAt) → MatchResult a (λ x. r ≡ Ok x) (λ q. IsErrAnd r (L q))
     → ((q : Refusal) (f : FaultAt) → L q f → q ≡ Faulted f) → a ≡ refused_by r
 mapped (Ok x) r h k = rw h refl
 mapped (Err q) r h k =
@@ -67,14 +68,13 @@ answered S T bytes text n (Err f) e h =
 
 -- what the offer of a sector comes to, at the sets that the transcript had at first
 comes : {A B : Type 0} (f : A → Meaning) (h : B → Meaning) {x x' : A} {y y' : B} → Laws (f x')
-    → Laws (h y') → (bytes text rest sector more : List ℕ) (s t : Snapshot) (out after : List ℕ)
-    (r : OfferAnswer) → x ≡ x' → y ≡ y'
+    → Laws (h y') → (bytes text rest sector more : List ℕ) (s t : Snapshot)
+    (out after : List ℕ) (r : OfferAnswer) → x ≡ x' → y ≡ y'
     → Along (f x') (h y') bytes text rest s → rest ≡ sector ++ more
-    → length sector ≡ min 4096 (length rest)
-    → 0 < length rest → length bytes ≤ 4294967296 → length out ≡ 16396
-    → Step (f x) (h y) s (offer sector out r after) t
+    → length sector ≡ min 4096 (length rest) → 0 < length rest → length bytes ≤ 4294967296
+    → length out ≡ 16396 → Step (f x) (h y) s (offer sector out r after) t
     → (m : Result Done FaultAt) × (r ≡ refused_by m)
-    × ComesTo (f x') (h y') bytes text after more t m
+        × ComesTo (f x') (h y') bytes text after more t m
 comes f h l k bytes text rest sector more s t out after r p q along parts size some small room st =
     comes_to (f _) (h _) l k bytes text rest s t sector more out after along parts size some room
     small r
@@ -129,7 +129,8 @@ closes_to g c o e =
 
 pub loop-sector-init : goal.loop-sector-init
 loop-sector-init g c =
-    let all : chunks_rest c.into_iter-sector-iterator.result ≡ c.args.bytes.now = search rules in (
+    let all : chunks_rest c.into_iter-sector-iterator.result ≡ c.args.bytes.now = search rules in
+      (
       search rules,
       tt,
       search rules,

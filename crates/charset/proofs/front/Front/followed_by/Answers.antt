@@ -1,10 +1,11 @@
-use Rattle.std.proofs.Common.{◌≡◌, ℕ, ◌≤◌, List, length, take, ap, refl, sym, ◌∙◌, arith}
-use Rattle.std.proofs.Common.{length-take-le}
+use Rattle.std.proofs.Common.{◌≡◌, ℕ, ◌≤◌, List, length, take, ap, refl, sym}
+use Rattle.std.proofs.Common.{◌∙◌, arith, length-take-le}
 use Rattle.charset.specs.Laws.Padding.{size_back}
 use Rattle.charset.proofs.Places.{padded_more, view_more, four_of}
 use Rattle.charset.proofs.front.Front.followed_by.Goals as goal
 
-size : (more part : List ℕ) (k : ℕ) → part ≡ take k more → k ≤ length more → length part ≡ k
+size : (more part : List ℕ) (k : ℕ) → part ≡ take k more → k ≤ length more
+    → length part ≡ k
 size more part k h fits = ap length h ∙ length-take-le k more fits
 
 pub invariant_of-result : goal.invariant_of-result

@@ -1,10 +1,11 @@
-use Rattle.std.proofs.Common.{◌≡◌, ℕ, ◌-◌, ◌≤◌, List, [], ◌++◌, length, take, drop, min, ◌∙◌}
+use Rattle.std.proofs.Common.{◌≡◌, ℕ, ◌-◌, ◌≤◌, List, [], ◌++◌, length, take}
+use Rattle.std.proofs.Common.{drop, min, ◌∙◌}
 use Rattle.charset.proofs.Places.{window}
 use Rattle.charset.proofs.front.Front.window.Goals as goal
 
-of_parts : (self first more empty one two : List ℕ) (at n k : ℕ) → first ≡ self → length first ≤ 4
-    → n ≡ min at (length first) → k ≡ min (at - n) (length more) → empty ≡ []
-    → one ≡ take 4 (empty ++ take (length first - n) (drop n first))
+of_parts : (self first more empty one two : List ℕ) (at n k : ℕ) → first ≡ self
+    → length first ≤ 4 → n ≡ min at (length first) → k ≡ min (at - n) (length more)
+    → empty ≡ [] → one ≡ take 4 (empty ++ take (length first - n) (drop n first))
     → two ≡ take 4 (one ++ take (length more - k) (drop k more))
     → two ≡ take 4 (drop at (self ++ more))
 of_parts self first more empty one two at n k f few start behind e o t =

@@ -1,4 +1,5 @@
-use Rattle.std.proofs.Common.{◌≡◌, ℕ, true, Some, None, Option, is_some, inl, inr, subst, arith}
+use Rattle.std.proofs.Common.{◌≡◌, ℕ, true, Some, None, Option, is_some, inl, inr, subst}
+use Rattle.std.proofs.Common.{arith}
 use Rattle.conformance.specs.declared.answer.Reply.{Reply}
 use Rattle.conformance.specs.declared.known.Known.{Known}
 use Rattle.conformance.specs.declared.vector.Vector.{Vector}

@@ -1,4 +1,5 @@
-use Rattle.std.proofs.Common.{◌≡◌, ℕ, ◌-◌, ◌≤◌, List, ◌++◌, length, take, drop, Result, ◌∙◌}
+use Rattle.std.proofs.Common.{◌≡◌, ℕ, ◌-◌, ◌≤◌, List, ◌++◌, length, take}
+use Rattle.std.proofs.Common.{drop, Result, ◌∙◌}
 use Rattle.charset.specs.Meaning.{Meaning, Laws}
 use Rattle.charset.specs.Sets.{set_of}
 use Rattle.conversion.specs.declared.Fault.{Fault}
@@ -14,11 +15,11 @@ among : (S T : Meaning) → Laws S → (held sector view out out' : List ℕ) (a
 among S T l held sector view out out' at r v st =
     advances_four T l (drop at (held ++ sector)) out out' r (rw v at st)
 
-after : (S T : Meaning) (held bytes sector out out' : List ℕ) (at : ℕ) (r : Result Advance Fault)
-    → bytes ≡ held → length bytes ≤ at
+after : (S T : Meaning) (held bytes sector out out' : List ℕ) (at : ℕ)
+    (r : Result Advance Fault) → bytes ≡ held → length bytes ≤ at
     → Advances S T (take (length sector - (at - length bytes)) (drop (at - length bytes) sector))
-    out
-    out' r → Advances S T (drop at (held ++ sector)) out out' r
+        out out' r
+    → Advances S T (drop at (held ++ sector)) out out' r
 after S T held bytes sector out out' at r b h st =
     let seen : take (length sector - (at - length bytes)) (drop (at - length bytes) sector) ≡ drop
     at (held ++ sector) = rw b (behind held sector at (rw b at h)) in

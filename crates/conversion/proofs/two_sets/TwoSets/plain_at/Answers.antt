@@ -1,11 +1,13 @@
-use Rattle.std.proofs.Common.{◌≡◌, ℕ, ◌-◌, ◌≤◌, List, ◌++◌, length, take, drop, subst}
+use Rattle.std.proofs.Common.{◌≡◌, ℕ, ◌-◌, ◌≤◌, List, ◌++◌, length, take}
+use Rattle.std.proofs.Common.{drop, subst}
 use Rattle.charset.specs.Sets.{set_of}
 use Rattle.charset.specs.Meaning.{Meaning}
 use Rattle.conversion.specs.Runs.{ByteForByte}
 use Rattle.conversion.proofs.Windows.{behind}
 use Rattle.conversion.proofs.two_sets.TwoSets.plain_at.Goals as goal
 
-seen : (S T : Meaning) (held sector out out' : List ℕ) (at n b : ℕ) → b ≡ length held → b ≤ at
+seen : (S T : Meaning) (held sector out out' : List ℕ) (at n b : ℕ) → b ≡ length held
+    → b ≤ at
     → ByteForByte S T (take (length sector - (at - b)) (drop (at - b) sector)) out out' n
     → ByteForByte S T (drop at (held ++ sector)) out out' n
 seen S T held sector out out' at n b e h far =

@@ -1,5 +1,5 @@
-use Rattle.std.proofs.Common.{◌≡◌, ℕ, ◌+◌, ◌-◌, ◌≤◌, List, ◌++◌, length, take, drop, Ok, Err, refl}
-use Rattle.std.proofs.Common.{Result, subst, arith, rules}
+use Rattle.std.proofs.Common.{◌≡◌, ℕ, ◌+◌, ◌-◌, ◌≤◌, List, ◌++◌, length}
+use Rattle.std.proofs.Common.{take, drop, Ok, Err, refl, Result, subst, arith, rules}
 use mathlib.Core.Path.{subst₃}
 use borrow.Rule.Slice.PartMut.{put_mid}
 use Rattle.charset.specs.Meaning.{Meaning, Laws}
@@ -32,7 +32,8 @@ module _ {S T : Meaning} (l : Laws S) (held sector out o : List ℕ) {count at p
       → ByteForByte S T (drop at (held ++ sector)) (part put o) last n
       → Far S T (held ++ sector) out (after put o last) count at put
   still last n none more =
-      subst₃ (λ x y z. Far S T (held ++ sector) out (after put o last) x y z) (omega (arith, none))
+      subst₃ (λ x y z. Far S T (held ++ sector) out (after put o last) x y z)
+          (omega (arith, none))
       (omega (arith, none)) (omega (arith, none)) (copied last n more)
 
 module _ {S T : Meaning} (l : Laws S) (held sector out o last : List ℕ) {count at put : ℕ}

@@ -1,7 +1,7 @@
 -- At an offer, the call as it is seen at the return computes once the call is rewritten to its
 -- case.
-use Rattle.std.proofs.Common.{◌≡◌, ℕ, ◌⊎◌, List, Ok, Err, Result, sym, refl, ap, subst, rules, inl}
-use Rattle.std.proofs.Common.{inr}
+use Rattle.std.proofs.Common.{◌≡◌, ℕ, ◌⊎◌, List, Ok, Err, Result, sym, refl, ap}
+use Rattle.std.proofs.Common.{subst, rules, inl, inr}
 use Rattle.std.specs.Borrow.{Bor, MutBor}
 use Rattle.std.specs.Result.{MatchResult}
 use Rattle.std.proofs.lemmas.Result.{MatchResult-weaker}
@@ -30,7 +30,8 @@ OfferOrClose call.Close = Unit {0}
 OfferOrClose call.Status = ⊥
 
 by_call : (z : Call) → OfferOrClose z
-    → ((i : Bor (List ℕ)) × (o : MutBor (List ℕ)) × (z ≡ call.Offer i o)) ⊎ (z ≡ call.Close)
+    → ((i : Bor (List ℕ)) × (o : MutBor (List ℕ)) × (z ≡ call.Offer i o))
+        ⊎ (z ≡ call.Close)
 by_call call.Start w = absurd w
 by_call (call.Offer i o) w = inl (i, o, refl)
 by_call call.Close w = inr refl

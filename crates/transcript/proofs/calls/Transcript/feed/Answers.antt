@@ -12,7 +12,8 @@ settle-requires g c =
     possible (set_of s x) (set_of t y) (g.met.S.CharacterSet.lawful x)
     (g.met.T.CharacterSet.lawful y)
     (snapshot m.progress) c.args.sector.now c.args.output.now c.convert-end.new.output
-    c.convert-end.new.run c.convert-end.result c.convert-end.ensures.runs c.in_ok-within_limits.ensures
+    c.convert-end.new.run c.convert-end.result c.convert-end.ensures.runs
+        c.in_ok-within_limits.ensures
 
 pub returns : goal.returns
 returns g c =
@@ -25,6 +26,7 @@ returns g c =
           offered_open (set_of s x) (set_of t y) (g.met.S.CharacterSet.lawful x)
           (g.met.T.CharacterSet.lawful y)
           (snapshot m.progress) c.args.sector.now c.args.output.now c.convert-end.new.output
-          c.convert-end.new.run c.convert-end.result c.convert-end.ensures.runs c.in_ok-within_limits.ensures
+          c.convert-end.new.run c.convert-end.result c.convert-end.ensures.runs
+              c.in_ok-within_limits.ensures
           c.settle.result (snapshot c.settle.new.self) c.settle.ensures;
     }
