@@ -22,7 +22,7 @@ module _ (places m : List ℕ) (n j k : ℕ) (h : Padded places n) (size : lengt
     four =
         same_len_mid n j places m (size ∙ sym part ∙ sym
         (length-take-le j (drop n places) (omega (arith, h.four, length-drop n places))))
-            ∙ h.four;
+        ∙ h.four;
     zeros =
         drop-put_mid n j places m (n + k) (omega arith) (omega (arith, h.four)) (size ∙ sym part)
         ∙ sym (drop-drop k n places) ∙ ap (drop k) h.zeros ∙ drop-replicate k (4 - n) 0

@@ -56,7 +56,7 @@ ApartIn6937 x theirs ours (Some known.Stroke) = IsStroke theirs ours
 ApartIn6937 x theirs ours (Some known.SmallG) = IsSmallG x theirs ours
 ApartIn6937 x theirs ours None =
     (IsBar theirs ours → ⊥) × (IsStroke theirs ours → ⊥)
-        × (IsSmallG x theirs ours → ⊥)
+    × (IsSmallG x theirs ours → ⊥)
 ApartIn6937 x theirs ours (Some known.Control) = ⊥
 ApartIn6937 x theirs ours (Some known.Window) = ⊥
 ApartIn6937 x theirs ours (Some known.Waits) = ⊥
@@ -95,12 +95,12 @@ WaitsAt s f (Some known.Tags) = ⊥
 abbrev pub Waits : Set → ℕ → ℕ → Reply → Reply → Type 0
 Waits s width x theirs ours =
     (no_beginning s (front_of width x) ≡ true) × (theirs ≡ answer.Open)
-        × (is_refusal ours ≡ true)
+    × (is_refusal ours ≡ true)
 
 abbrev pub ReadsBeyond : Set → Reply → Reply → (ℕ → Type 0) → Type 0
 ReadsBeyond s theirs ours Kind =
     (s ≢ set.Utf8)
-        × ((c : ℕ) × (theirs ≡ answer.Character c 1) × (ours ≡ answer.Refused 31)
+    × ((c : ℕ) × (theirs ≡ answer.Character c 1) × (ours ≡ answer.Refused 31)
     × Kind c)
 
 abbrev pub ApartInReading : Set → (width x : ℕ) → Reply → Reply → Option Known → Type 0
@@ -131,7 +131,7 @@ IsTag s n theirs ours =
 abbrev pub WritesBeyond : Set → Reply → Reply → (ℕ → Type 0) → Type 0
 WritesBeyond s theirs ours Kind =
     (s ≢ set.Utf8) × (ours ≡ answer.NoCoding)
-        × ((b : ℕ) × (theirs ≡ answer.Bytes b 1) × Kind b)
+    × ((b : ℕ) × (theirs ≡ answer.Bytes b 1) × Kind b)
 
 -- the byte b stands for the character c there, and for d here
 abbrev pub Exchanged : (b c d n : ℕ) → Reply → Reply → Type 0
@@ -165,7 +165,7 @@ ApartInWriting s n theirs ours None =
     (IsTag s n theirs ours → ⊥) × (WritesBeyond s theirs ours (λ b. IsControl n b) → ⊥)
     × (WritesBeyond s theirs ours (λ b. IsWindow s n b) → ⊥)
     × (s ≡ set.Iso6937
-        → (WritesBar n theirs ours → ⊥) × (WritesStroke n theirs ours → ⊥)
+    → (WritesBar n theirs ours → ⊥) × (WritesStroke n theirs ours → ⊥)
     × (WritesSmallG n theirs ours → ⊥))
 
 -- a question put to n, their answer and ours

@@ -37,5 +37,5 @@ set_examples = record {
       refl;
   open_after_four =
       by_reading (shift_laws utf8_laws) (0x19 ∷ 0x62 ∷ 0x19 ∷ 0x20 ∷ []) (Err (own 36))
-          refl;
+      refl;
 }

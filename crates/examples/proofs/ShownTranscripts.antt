@@ -66,9 +66,9 @@ letter_offered = call acute_offered (record {
   end = Ok pause.Open;
   reaches =
       reaching (0xc2 ∷ 0x65 ∷ []) 1 (Ok pause.Open) (0xe9 ∷ []) (0xc2 ∷ 0x65 ∷ [])
-          (0xe9 ∷ []) []
+      (0xe9 ∷ []) []
       (0xc2 ∷ 0x65 ∷ [], [], refl, refl, refl) (0xe9 ∷ [], [], refl, refl, refl) refl
-          (omega arith)
+      (omega arith)
       iso6937_laws.empty_opens;
   answer = refl;
   left = refl;
@@ -77,7 +77,7 @@ letter_offered = call acute_offered (record {
 
 cedilla_offered : Use iso6937 latin
     (offer (0x41 ∷ 0xcb ∷ 0x73 ∷ []) (0 ∷ 0 ∷ [])
-        (Err (Faulted (fault_at (Unwritten 0x15f) 1 1 1)))
+    (Err (Faulted (fault_at (Unwritten 0x15f) 1 1 1)))
     (0x41 ∷ 0 ∷ []) ∷ (start ∷ []))
     (record {
       state = state.Faulted (fault_at (Unwritten 0x15f) 1 1 1);

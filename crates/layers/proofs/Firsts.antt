@@ -14,7 +14,7 @@ abbrev pub IsFirst : (Passes Fails : ℕ → Type 0) → List ℕ → Option ℕ
 IsFirst Passes Fails xs r =
     MatchOption r (AllWithin Fails xs 0 (length xs))
     (λ c. Passes c × (i : ℕ) × (i < length xs) × HoldsAt (λ y. y ≡ c) xs i
-        × AllWithin Fails xs 0 i)
+    × AllWithin Fails xs 0 i)
 
 module _ (Passes Fails : ℕ → Type 0) (xs : List ℕ) where
   failing : AllWithin Fails xs 0 (length xs) → (d : ℕ) → on_list xs d ≡ true → Fails d
@@ -40,7 +40,7 @@ first_missing xs (Some c) f = record {
   absent = f.0;
   before =
       failing_below (λ c. on_list xs c ≡ false) (λ c. on_list xs c ≡ true) required
-          required_rising
+      required_rising
       c f.1 f.2 f.3 f.4;
 }
 
@@ -54,5 +54,5 @@ first_uncoded k xs up (Some c) f = record {
   uncoded = f.0;
   before =
       failing_below (λ c. k.string c ≡ None) (λ c. k.string c ≡ None
-          → ⊥) xs up c f.1 f.2 f.3 f.4;
+      → ⊥) xs up c f.1 f.2 f.3 f.4;
 }

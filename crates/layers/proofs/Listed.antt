@@ -39,8 +39,8 @@ listed_by_search xs c up r h b e = e ∙ go r (searched xs c r h (never_falls xs
 
     go : (r : Result ℕ ℕ)
         → MatchResult r (λ i. (i < length xs) × (get_or xs i 0 ≡ c)) (λ i. (i ≤ length xs)
-            × ((k : ℕ) → k < i → get_or xs k 0 < c)
-            × ((k : ℕ) → i ≤ k → k < length xs → c < get_or xs k 0))
+        × ((k : ℕ) → k < i → get_or xs k 0 < c)
+        × ((k : ℕ) → i ≤ k → k < length xs → c < get_or xs k 0))
         → is_ok r ≡ on_list xs c
     go (Ok i) f = sym (rw f.1 at (listed_at xs i f.0))
     go (Err i) f = absent i f.1 f.2 (on_list xs c) refl

@@ -24,7 +24,7 @@ sub_meaning ds m l = record {
   where
     go : (s : List ℕ) → Unreadable (sub ds m) s → (r : ReadAnswer) → Reads m s r
         → Unreadable m s
-            ⊎ ((c n : ℕ) × Reads m s (Ok (Found c n)) × (on_list ds c ≡ false))
+        ⊎ ((c n : ℕ) × Reads m s (Ok (Found c n)) × (on_list ds c ≡ false))
     go s u (Ok (Found c n)) h =
         inr (c, n, h, false_from_ne_true _ (λ e. u.0 n c (rw (h.1, e) refl)))
     go s u (Ok Open) h = absurd (both_ways _ u.1 h)

@@ -28,7 +28,7 @@ module _ (k : Codings) (xs : List ℕ) where
   missing_once : (c d : ℕ) → FirstMissing xs c → FirstMissing xs d → c ≡ d
   missing_once c d p q =
       smallest (λ n. (on_list required n ≡ true) × (on_list xs n ≡ false)) c d
-          (p.needed, p.absent)
+      (p.needed, p.absent)
       (q.needed, q.absent)
       (λ n h f. both_ways (on_list xs n) f.1 (p.before n f.0 h))
       (λ n h f. both_ways (on_list xs n) f.1 (q.before n f.0 h))

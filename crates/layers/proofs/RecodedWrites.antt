@@ -53,7 +53,7 @@ extends u (Two x y) w e = go (with_byte u x) refl e
     go : (j : Option (List ℕ)) → with_byte u x ≡ j
         → option_and_then (λ v. with_byte v y) j ≡ Some w
         → (length w ≤ 4)
-            × ((o : Option (List ℕ)) → ahead u (before (Some (Two x y)) o) ≡ ahead w o)
+        × ((o : Option (List ℕ)) → ahead u (before (Some (Two x y)) o) ≡ ahead w o)
     go None h k = cc
     go (Some v) h k =
         let p = joined_parts u x v h in

@@ -125,7 +125,7 @@ module _ {r : Recoding} (a : Agrees r) (m : Meaning) where
       go (Some Hold) k e = ([], x, refl, k, refl)
       go None k e = cc
   pending_split (x ∷ y ∷ s) e =
-    go (r.step false x) refl (pending_split (y ∷ s)) (pending_split s) e
+      go (r.step false x) refl (pending_split (y ∷ s)) (pending_split s) e
     where
       snd : (v : Option Move) → r.step true y ≡ v → r.step false x ≡ Some Hold
           → (ends r false s ≡ pending → Split s (below r false s))
@@ -174,10 +174,10 @@ module _ {r : Recoding} (a : Agrees r) (m : Meaning) where
       go : (v : Option Move)
           → ((z : Bool) → ends r z p ≡ cond h pending clean
           → (ends r z (p ++ s) ≡ ends r h s)
-              × (below r z (p ++ s) ≡ below r z p ++ below r h s))
+          × (below r z (p ++ s) ≡ below r z p ++ below r h s))
           → stop v (λ z. ends r z p) ≡ cond h pending clean
           → (stop v (λ z. ends r z (p ++ s)) ≡ ends r h s)
-              × (put v (λ z. below r z (p ++ s)) ≡ put v (λ z. below r z p) ++ below r h s)
+          × (put v (λ z. below r z (p ++ s)) ≡ put v (λ z. below r z p) ++ below r h s)
       go (Some (Emit b)) f e = ((f false e).0, ap {B = List ℕ} (λ z. b ∷ z) (f false e).1)
       go (Some Hold) f e = f true e
       go None f e = absurd (unbroken h (sym e))
@@ -185,7 +185,7 @@ module _ {r : Recoding} (a : Agrees r) (m : Meaning) where
   -- an opening is a string that shifts an opening below, with or without one more held byte
   form_opens : (s : List ℕ) → IsOpening (recoded r m) s
       → (length s ≤ 3)
-          × ((t : List ℕ) × IsOpening m t × ((in_form r t ≡ Some s) ⊎ Split s t))
+      × ((t : List ℕ) × IsOpening m t × ((in_form r t ≡ Some s) ⊎ Split s t))
   form_opens s o =
       let h = opens_parts r m s o in (h.0, (below r false s, h.2, go (ends r false s) refl h.1))
     where
@@ -422,11 +422,11 @@ pub shift_meaning : (m : Meaning) → Laws m → ShiftMeaning m
 shift_meaning m l = record {
   codes =
       λ s c p. let h = form_codes shift_agrees m s c p in
-          (h.0, in_form_shifts h.0 s h.1, h.2, h.3);
+      (h.0, in_form_shifts h.0 s h.1, h.2, h.3);
   coded_by = λ s t c h p k. form_coded shift_agrees m s t c (shifts_in_form t s h) p k;
   opens =
       λ s o. let h = form_opens shift_agrees m s o in
-          (h.0, (h.1.0, h.1.1, as_words s h.1.0 h.1.2));
+      (h.0, (h.1.0, h.1.1, as_words s h.1.0 h.1.2));
   opened_by = λ s t h o d. form_opened shift_agrees m s t h o (as_form s t d);
   not_shifted =
       λ p rest x o d. own_cause shift_agrees m l p rest x o (cannot false p x d) (cannot' p x d);
@@ -452,9 +452,9 @@ shift_meaning m l = record {
 
     kind : (p : List ℕ) (x : ℕ) → Fault shift_agrees m l p x
         → CannotFollow p x
-            ⊎ (((length p ≡ 3) × (t : List ℕ) × IsOpening m t
-                × BeginsShifted t (p ++ x ∷ []))
-                    ⊎ ((t : List ℕ) × Shifts t (p ++ x ∷ []) × Unreadable m t))
+        ⊎ (((length p ≡ 3) × (t : List ℕ) × IsOpening m t
+        × BeginsShifted t (p ++ x ∷ []))
+        ⊎ ((t : List ℕ) × Shifts t (p ++ x ∷ []) × Unreadable m t))
     kind p x (inl (false, e, k)) = inl (inl (wrong_high x k))
     kind p x (inl (true, e, k)) = elim (wrong_second x k) [
       | inl h ↦ let i =

@@ -52,7 +52,7 @@ pub index_from-pages_in : (o : ℕ) (es : List NewEntry) (bs : List ℕ) → Add
 index_from-pages_in o [] bs h = grind (arith, common_steps)
 index_from-pages_in o (e ∷ es) bs h =
     let t : length (take e.size bs) ≡ e.size = grind (arith, common_steps, first_fits e es bs h)
-        in
+    in
     rw (t, index_from-pages_in (o + e.size) es (drop e.size bs) (rest_adds_up e es bs h)) refl
 
 pub packed-pages_in : (es : List NewEntry) (bs : List ℕ) → AddUp es bs

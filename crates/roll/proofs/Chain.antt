@@ -48,7 +48,7 @@ pub covers : (b : List ℕ) → NoPagesNoBytes b → EntriesHold b
     → joined b (page_count b) ≡ take (index_offset b) b
 covers b none h =
     joined_take b (page_count b) h
-        ∙ ap (λ z. take z b) (starts_last b (page_count b) refl none h)
+    ∙ ap (λ z. take z b) (starts_last b (page_count b) refl none h)
 
 -- the first entry that breaks a rule
 pub first_bad : (b : List ℕ) (k : ℕ) → k < page_count b → HoldBelow b k

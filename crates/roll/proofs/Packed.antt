@@ -68,7 +68,7 @@ split_at (x ∷ ps) (suc k) p h = ap (λ z. x ∷ z) (split_at ps k p h)
 -- where a page ends
 ends_at : (ps : List PackedPage) (k : ℕ) (p : PackedPage) → slice_get ps k ≡ Some p
     → length (pages_joined (take (suc k) ps))
-        ≡ length (pages_joined (take k ps)) + length p.bytes
+    ≡ length (pages_joined (take k ps)) + length p.bytes
 ends_at [] k p h = cc
 ends_at (x ∷ ps) zero p h =
     let e : x ≡ p = cc in
@@ -242,7 +242,7 @@ packed_is_roll ps fits =
     let entries = packed_entries ps fits.forms in
     let ends : sizes b (page_count b) ≡ index_offset b =
     sym (starts_sizes b (page_count b) entries) ∙ starts_last b (page_count b) refl none entries
-        in
+    in
     record {
       accepted = record {
         sized = (omega (arith, packed_length ps), omega (arith, packed_length ps, fits.short));

@@ -52,7 +52,7 @@ abbrev Answers : {A C D F : Type 0} → Mut F (Bor A × Unit {0}) (Option C) →
     → (Option C → Option D) → (A → Option D) → Type 0
 Answers {A} {C} {D} {F} g f seen h =
     (x : Bor A) (o : Option C) (q : F) → Called g f (x, tt) o q
-        → (q ≡ f) × (seen o ≡ h x.now)
+    → (q ≡ f) × (seen o ≡ h x.now)
 
 module _ {A C D F S : Type 0} {steps : S → Option (Bor A) → S → Type 0}
     {g : Mut F (Bor A × Unit {0}) (Option C)} where
@@ -74,8 +74,8 @@ module _ {A C D F S : Type 0} {steps : S → Option (Bor A) → S → Type 0}
       (xs : List A) → rest s ≡ xs
       → EveryRun steps (λ p. ItemsMapTo p (λ y. y.now) (rest p.from))
       → SomeRun steps s
-          (λ p. MatchOption r (IsTrue p.whole × AllItemsGive p g f None) (λ y. (i : ℕ)
-              × (i < p.len) × (p.len ≡ i + 1) × IsFirstToGive p g f (Some y) None i))
+      (λ p. MatchOption r (IsTrue p.whole × AllItemsGive p g f None) (λ y. (i : ℕ)
+      × (i < p.len) × (p.len ≡ i + 1) × IsFirstToGive p g f (Some y) None i))
       → seen r ≡ first_in h xs
   first_answer {f} {s} rest h seen none some calls r xs here every run = by r run.2
     where
@@ -90,7 +90,7 @@ module _ {A C D F S : Type 0} {steps : S → Option (Bor A) → S → Type 0}
 
       by : (o : Option C)
           → MatchOption o (IsTrue p.whole × AllItemsGive p g f None) (λ y. (i : ℕ)
-              × (i < p.len) × (p.len ≡ i + 1) × IsFirstToGive p g f (Some y) None i)
+          × (i < p.len) × (p.len ≡ i + 1) × IsFirstToGive p g f (Some y) None i)
           → seen o ≡ first_in h xs
       by None m =
           none ∙ sym (all_none h xs (λ k d l. answered f seen h calls p xs items k d None
@@ -120,7 +120,7 @@ first_number test a (suc n) = go (test a) (rw (add-one a) (first_number test (su
 
 pub first_of_numbers : {F G : Type 0} {g : Mut F (Bor ℕ × Unit {0}) Bool}
     {h : Mut G (ℕ × Unit {0}) ℕ} (test : ℕ
-        → Bool) (a n : ℕ) (s u : Map (Range ℕ) G) (f : F)
+    → Bool) (a n : ℕ) (s u : Map (Range ℕ) G) (f : F)
     (r : Option ℕ) → FindsItem (maps nat_range_steps h) g s f r u
     → map_source s ≡ record { start = 0; end = n }
     → map (λ x. a + x) (range_with_len 0 n) ≡ range_with_len a n
@@ -132,5 +132,5 @@ first_of_numbers {h = h} test a n s u f r d source moved adds calls =
     let numbers = YieldsList-from_map h (λ x. a + x) (YieldsList-from_range 0 n n source
     (omega arith)) refl adds in
     sym (option_map_id r) ∙ find_from_yields_List test u f r d numbers calls
-        ∙ ap (find test) moved
+    ∙ ap (find test) moved
     ∙ first_number test a n

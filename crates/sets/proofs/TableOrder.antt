@@ -103,7 +103,7 @@ letters_alike mark (d ∷ ds) (e ∷ es) ok =
 pairs_alike : (c : ℕ) (ds : List Diacritic) (es : List (ℕ × List (ℕ × ℕ)))
     → same_table ds es ≡ true
     → first_in (λ d. option_map {U = ℕ × ℕ} (λ l. (d.mark, l)) (letter_of c d.letters.now))
-        ds
+    ds
     ≡ first_in (λ e. option_map (λ l. (e.0, l)) (letter_of c e.1)) es
 pairs_alike c [] [] ok = refl
 pairs_alike c [] (e ∷ es) ok = cc
@@ -128,7 +128,7 @@ pub code_letters : {A : Type 0} (f : A → List (ℕ × ℕ)) (mark : ℕ) (o : 
     → option_map f o ≡ first_in (λ d. when (d.mark == mark) d.letters.now) ds
     → same_table ds diacritics ≡ true
     → (is_some o ≡ is_some (letters_of mark))
-        × ((l : ℕ) → among l (option_map f o) ≡ pair mark l)
+    × ((l : ℕ) → among l (option_map f o) ≡ pair mark l)
 code_letters f mark o ds e ok =
     let same = letters_alike mark ds diacritics ok in (
       is_some-map f o ∙ ap is_some e ∙ same.known,

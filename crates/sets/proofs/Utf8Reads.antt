@@ -13,7 +13,7 @@ pub bad_first : (s : List ℕ) → 1 ≤ length s → 0x80 ≤ get_or s 0 0
 bad_first [] l h k = absurd (omega arith)
 bad_first (a ∷ s) l h k =
     unreadable_here utf8_laws (a ∷ s) 0 refl
-        (cond-false _ (Some _) None (grind (arith, nat_tests)))
+    (cond-false _ (Some _) None (grind (arith, nat_tests)))
     k
 
 pub bad_second : (s : List ℕ) → 2 ≤ length s → lead (get_or s 0 0) ≡ true

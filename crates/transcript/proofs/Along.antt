@@ -52,7 +52,7 @@ within taken sector out a b c = grind (arith, nat_tests)
 -- a text that is spelt up to an offset, and ends there
 pub up_to : (S T : Meaning) (bytes text spelt rest chars : List ℕ) (count offset : ℕ)
     (stop : Option Fault) → bytes ≡ spelt ++ rest → length spelt ≡ offset
-        → count ≡ length chars
+    → count ≡ length chars
     → Spells S chars spelt → Spells T chars text → Ends S T rest stop
     → Transcribed S T bytes text count offset stop
 up_to S T bytes text spelt rest chars count offset stop whole size counted from into e = record {
@@ -61,12 +61,12 @@ up_to S T bytes text spelt rest chars count offset stop whole size counted from 
   inside = omega (arith, ap length whole ∙ length-append spelt rest);
   from =
       subst (λ z. Spells S chars z)
-          (sym (ap (take offset) whole ∙ take_at spelt rest offset size))
+      (sym (ap (take offset) whole ∙ take_at spelt rest offset size))
       from;
   into = into;
   ends =
       subst (λ z. Ends S T z stop)
-          (sym (ap (drop offset) whole ∙ drop_at spelt rest offset size))
+      (sym (ap (drop offset) whole ∙ drop_at spelt rest offset size))
       e;
 }
 

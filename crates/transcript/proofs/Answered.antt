@@ -73,7 +73,7 @@ module _ (S T : Meaning) (l : Laws S) where
 
   answered : (s : Snapshot) (sector out : List ℕ)
       → (r : OfferAnswer) × (after : List ℕ) × (t : Snapshot)
-          × Offered S T s sector out r after t
+      × Offered S T s sector out r after t
   answered s sector out = go (refused s.state s.taken sector out)
     where
       worked : Reached (s.held ++ sector) (length out)

@@ -62,7 +62,7 @@ module _ (S T : Meaning) (l : Laws S) where
       → ((told_of (answers k o n w)).number ≡ 7 → ⊥)
       → ((told_of (answers k o n w)).number ≡ 8 → ⊥)
       → ((told_of (answers k o n w)).number ≡ 0)
-          × (takes k held sector source ≡ length sector)
+      × (takes k held sector source ≡ length sector)
   takes_all (Ok pause.Open) o n w used room held sector source rest st a b c = (refl, refl)
   takes_all (Ok pause.Full) o n w used room held sector source rest st a b c = absurd (c refl)
   takes_all (Err (Unread q)) o n w used room held sector source rest st a b c = absurd (a refl)

@@ -140,7 +140,7 @@ module _ (S T : Meaning) (l : Laws S) where
       (sector chars source target rest : List ℕ) → StandsOn S T bytes out s
       → Spells S chars source → Spells T chars target → s.held ++ sector ≡ source ++ rest
       → StandsOn S T (bytes ++ take (length source - length s.held) sector) (out ++ target)
-          (next s p (length source - length s.held) chars target (unless_any chars s.held))
+      (next s p (length source - length s.held) chars target (unless_any chars s.held))
   part bytes out s p sector [] source target rest h from into e =
       let n_is : length source - length s.held ≡ 0 = rw from (omega arith) in
       rw n_is (grown bytes out s p 0 sector [] source target s.held h from into (omega arith)
@@ -150,14 +150,14 @@ module _ (S T : Meaning) (l : Laws S) where
       let sizes : length s.held + length sector ≡ length source + length rest =
       sym (length-append s.held sector) ∙ ap length e ∙ length-append source rest in
       grown bytes out s p (length source - length s.held) sector (c ∷ chars) source target [] h
-          from
+      from
       into (omega arith)
       (taken_part s.held sector source rest e (omega arith) ∙ sym (append-nil source))
-          l.empty_opens
+      l.empty_opens
 
   by_end : (bytes out : List ℕ) (s : Snapshot) (p : State)
       (sector chars source target rest : List ℕ) (room : ℕ) (k : End)
-          → StandsOn S T bytes out s
+      → StandsOn S T bytes out s
       → Leads S T (s.held ++ sector) room chars source target rest
       → Stops S T rest (length target) room k
       → StandsOn S T (bytes ++ take (takes k s.held sector source) sector) (out ++ target)

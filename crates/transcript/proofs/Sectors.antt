@@ -30,14 +30,14 @@ use Rattle.transcript.proofs.Along.{Along, up_to, within, ends_on}
 -- a last offer met a fault
 pub record Stopped (S T : Meaning) (bytes text : List ℕ) (f : FaultAt) (t : Snapshot) : Type 0
   where
-  pub offers : List Event
-  pub used : Use S T offers t
-  pub fed : Feeds bytes offers
-  pub in_pieces : InPieces bytes offers
-  pub answered : AllTakenOrFaulted offers
-  pub state_is : t.state ≡ Faulted f
-  pub text_is : text ≡ written_in offers
-  pub transcribed : Transcribed S T bytes text t.characters f.offset (Some f.fault)
+    pub offers : List Event
+    pub used : Use S T offers t
+    pub fed : Feeds bytes offers
+    pub in_pieces : InPieces bytes offers
+    pub answered : AllTakenOrFaulted offers
+    pub state_is : t.state ≡ Faulted f
+    pub text_is : text ≡ written_in offers
+    pub transcribed : Transcribed S T bytes text t.characters f.offset (Some f.fault)
 
 -- what an offer comes to
 abbrev pub ComesTo : Meaning → Meaning → (bytes text after more : List ℕ) → Snapshot
@@ -55,7 +55,7 @@ ok_end (Err f) d o n w h = cc
 
 err_end : (e : End) (q : Refusal) (o n w : ℕ) → Err q ≡ answers e o n w
     → (e ≡ Ok pause.Full)
-        ⊎ ((f : Fault) × (e ≡ Err f) × (q ≡ refusal.Faulted (fault_at f o n w)))
+    ⊎ ((f : Fault) × (e ≡ Err f) × (q ≡ refusal.Faulted (fault_at f o n w)))
 err_end (Ok pause.Open) q o n w h = cc
 err_end (Ok pause.Full) q o n w h = inl refl
 err_end (Err f) q o n w h = inr (f, refl, cc)
@@ -122,7 +122,7 @@ module _ (S T : Meaning) (l : Laws S) (k : Laws T) (bytes text rest : List ℕ) 
       → bytes ≡ (before.decodes.spelt ++ source) ++ (h.rest ++ more)
   split chars source target e h =
       whole ∙ regroup_more (taken_in along.offers) before.decodes.spelt s.held sector source
-          h.rest
+      h.rest
       before.decodes.parts h.leads.begins more
 
   spelt_long : (source : List ℕ)
@@ -165,7 +165,7 @@ module _ (S T : Meaning) (l : Laws S) (k : Laws T) (bytes text rest : List ℕ) 
       let all : d.taken ≡ length sector =
       ap (λ z. z.taken) end.1 ∙ ap (λ z. takes z s.held sector w.source) end.0 in
       let taken : take d.taken sector ≡ sector = ap (λ n. take n sector) all
-          ∙ take-length sector in
+      ∙ take-length sector in
       record {
         offers = offer sector out (Ok d) after ∷ along.offers;
         used = call along.used st;
@@ -185,7 +185,7 @@ module _ (S T : Meaning) (l : Laws S) (k : Laws T) (bytes text rest : List ℕ) 
       → (w : Worked S T s sector out (Err q) after t) → (f : Fault) → w.end ≡ Err f
       → (p : FaultAt)
       → p ≡ fault_at f (offset_of s w.source) (takes w.end s.held sector w.source)
-          (length w.target)
+      (length w.target)
       → q ≡ refusal.Faulted p → ComesTo S T bytes text after more t (Err p)
   faults q st w f e p g h =
       let put : take (length w.target) after ≡ w.target =

@@ -45,7 +45,7 @@ module _ {S T : Type 0} {g : Ghosts S} {h : Ghosts T} where
     step = st;
     goes_on = λ past u.
         subst₂ (λ x y. Use (set_of g x) (set_of h y) (e ∷ past) (come_to new))
-            (sym same.source)
+        (sym same.source)
         (sym same.target) (uses.call {e = e} u st);
     output_stays = output_stays (source_set old) (target_set old) (come_to old) (come_to new) e st;
   }

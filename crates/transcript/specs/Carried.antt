@@ -78,7 +78,7 @@ Ended bytes offers events last outcome told =
     ((f : FaultAt) × (outcome ≡ Err f) × (last.state ≡ state.Faulted f)
     × (events ≡ status told ∷ offers))
     ⊎ ((taken_in offers ≡ bytes)
-        × (events ≡ status told ∷ (close (refused_by outcome) ∷ offers)))
+    × (events ≡ status told ∷ (close (refused_by outcome) ∷ offers)))
 
 -- a use of a transcript in which the bytes were offered piece after piece, and what it came to
 pub record CarriedOut (S T : Meaning) (bytes text : List ℕ) (characters : ℕ)

@@ -25,4 +25,4 @@ message NoMemory = codes "out of memory"
 message TooLong = codes "the text is too long"
 message (Faulted f) =
     codes "refused "
-        ++ (decimal (fault_number f.fault) ++ (codes " at offset " ++ decimal f.offset))
+    ++ (decimal (fault_number f.fault) ++ (codes " at offset " ++ decimal f.offset))

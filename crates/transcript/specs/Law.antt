@@ -86,7 +86,7 @@ abbrev pub LeavesState : End → OfferAnswer → State → Type 0
 LeavesState (Ok p) answer state = state ≡ Open
 LeavesState (Err fault) answer state =
     (f : FaultAt) × (f.fault ≡ fault) × (answer ≡ Err (refusal.Faulted f))
-        × (state ≡ Faulted f)
+    × (state ≡ Faulted f)
 
 module _ (S T : Meaning) (before : Snapshot) (sector out : List ℕ) (answer : OfferAnswer)
     (out_after : List ℕ) (after : Snapshot) where

@@ -74,7 +74,7 @@ comes : {A B : Type 0} (f : A → Meaning) (h : B → Meaning) {x x' : A} {y y' 
     → length sector ≡ min 4096 (length rest) → 0 < length rest → length bytes ≤ 4294967296
     → length out ≡ 16396 → Step (f x) (h y) s (offer sector out r after) t
     → (m : Result Done FaultAt) × (r ≡ refused_by m)
-        × ComesTo (f x') (h y') bytes text after more t m
+    × ComesTo (f x') (h y') bytes text after more t m
 comes f h l k bytes text rest sector more s t out after r p q along parts size some small room st =
     comes_to (f _) (h _) l k bytes text rest s t sector more out after along parts size some room
     small r
@@ -129,8 +129,7 @@ closes_to g c o e =
 
 pub loop-sector-init : goal.loop-sector-init
 loop-sector-init g c =
-    let all : chunks_rest c.into_iter-sector-iterator.result ≡ c.args.bytes.now = search rules in
-      (
+    let all : chunks_rest c.into_iter-sector-iterator.result ≡ c.args.bytes.now = search rules in (
       search rules,
       tt,
       search rules,

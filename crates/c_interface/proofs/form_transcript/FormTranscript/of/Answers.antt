@@ -15,7 +15,7 @@ returns-in_err-progress c =
     let first = c.followed_by-held.ensures ∙ rw (c.empty.ensures, c.min.ensures) refl in
     rw c.from_residual-in_err-progress.ensures
     (λ f g s k.
-        no_progress c.args.kept.now c.in_ok-status.status c.in_ok-status.ensures.numbers f g
+    no_progress c.args.kept.now c.in_ok-status.status c.in_ok-status.ensures.numbers f g
     s k
     c.followed_by-held.result first c.in_err-progress.ensures)
 

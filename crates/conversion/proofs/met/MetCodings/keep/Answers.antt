@@ -22,6 +22,6 @@ returns-in-3-len3-up c S T right becoming s v k =
       | inl p ↦ right s v (inl p)
       | inr p ↦ right_besides S T c.args.self.now.triples.kept c.place-in-3-len3-up.result _
           c.args.coding (sym (ap (becomes S T) front) ∙ becoming) (λ s v k. right s v (inr k)) s
-              v
+          v
           (rw (← c.keep-in-3-len3-up.ensures) p)
     ]

@@ -18,7 +18,7 @@ among S T l held sector view out out' at r v st =
 after : (S T : Meaning) (held bytes sector out out' : List ℕ) (at : ℕ)
     (r : Result Advance Fault) → bytes ≡ held → length bytes ≤ at
     → Advances S T (take (length sector - (at - length bytes)) (drop (at - length bytes) sector))
-        out out' r
+    out out' r
     → Advances S T (drop at (held ++ sector)) out out' r
 after S T held bytes sector out out' at r b h st =
     let seen : take (length sector - (at - length bytes)) (drop (at - length bytes) sector) ≡ drop

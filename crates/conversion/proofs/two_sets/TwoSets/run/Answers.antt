@@ -33,7 +33,7 @@ module _ {S T : Meaning} (l : Laws S) (held sector out o : List ℕ) {count at p
       → Far S T (held ++ sector) out (after put o last) count at put
   still last n none more =
       subst₃ (λ x y z. Far S T (held ++ sector) out (after put o last) x y z)
-          (omega (arith, none))
+      (omega (arith, none))
       (omega (arith, none)) (omega (arith, none)) (copied last n more)
 
 module _ {S T : Meaning} (l : Laws S) (held sector out o last : List ℕ) {count at put : ℕ}

@@ -12,7 +12,7 @@ unfolding diacritics
 returns c =
     let found = first_answer _ (λ (d : Diacritic). option_map (λ letter. (d.mark, letter))
     (letter_of c.args.character d.letters.now)) (λ o. o) refl (λ y. refl)
-        (λ x o q m. search rules)
+    (λ x o q m. search rules)
     c.find_map.result c.iter.result.rest.now refl c.iter.ensures.runs c.find_map.ensures.runs in
     code_pair c.args.character c.find_map.result c.iter.result.rest.now found
     (ap (λ ds. same_table ds diacritics) c.iter.ensures.rest)

@@ -31,7 +31,7 @@ OfferOrClose call.Status = ⊥
 
 by_call : (z : Call) → OfferOrClose z
     → ((i : Bor (List ℕ)) × (o : MutBor (List ℕ)) × (z ≡ call.Offer i o))
-        ⊎ (z ≡ call.Close)
+    ⊎ (z ≡ call.Close)
 by_call call.Start w = absurd w
 by_call (call.Offer i o) w = inl (i, o, refl)
 by_call call.Close w = inr refl

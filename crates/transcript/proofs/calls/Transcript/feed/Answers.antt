@@ -13,7 +13,7 @@ settle-requires g c =
     (g.met.T.CharacterSet.lawful y)
     (snapshot m.progress) c.args.sector.now c.args.output.now c.convert-end.new.output
     c.convert-end.new.run c.convert-end.result c.convert-end.ensures.runs
-        c.in_ok-within_limits.ensures
+    c.in_ok-within_limits.ensures
 
 pub returns : goal.returns
 returns g c =
@@ -27,6 +27,6 @@ returns g c =
           (g.met.T.CharacterSet.lawful y)
           (snapshot m.progress) c.args.sector.now c.args.output.now c.convert-end.new.output
           c.convert-end.new.run c.convert-end.result c.convert-end.ensures.runs
-              c.in_ok-within_limits.ensures
+          c.in_ok-within_limits.ensures
           c.settle.result (snapshot c.settle.new.self) c.settle.ensures;
     }
