@@ -129,14 +129,14 @@ closes_to g c o e =
 
 pub loop-sector-init : goal.loop-sector-init
 loop-sector-init g c =
-    let all : chunks_rest c.into_iter-sector-iterator.result ≡ c.args.bytes.now = search rules in (
+    let it : chunks_rest c.into_iter-sector-iterator.result ≡ c.args.bytes.now = search rules in (
       search rules,
       tt,
       search rules,
       refl,
       refl,
       refl,
-      rw (c.requires.no_text, all) (along_none _ _ _ _ c.requires.fresh),
+      rw (c.requires.no_text, it) (along_none _ _ _ _ c.requires.fresh),
     )
 
 pub map_err-offered-requires : goal.map_err-offered-requires

@@ -5,8 +5,6 @@ use Rattle.conformance.specs.declared.known.Known.{Known}
 use Rattle.conformance.specs.declared.vector.Vector.{Vector}
 use Rattle.conformance.specs.Differences.{Apart}
 use Rattle.conformance.specs.Held.{Agree}
-use Rattle.conformance.proofs.run.Stretch.at.Goals.{else-not-agrees-via-then-not-agrees+else-is_none}
-use Rattle.conformance.proofs.run.Stretch.at.Goals.{else-not-agrees-via-else-not-agrees}
 use Rattle.conformance.proofs.run.Stretch.at.Goals as goal
 
 known_kind : (v : Vector) (n : ℕ) (r : Reply) (k : Option Known) → is_some k ≡ true
@@ -16,10 +14,10 @@ known_kind v n r None e a = cc
 
 pub returns-clause-accounted : goal.returns-clause-accounted
 returns-clause-accounted c = elim c.else-not-agrees.branch [
-  | else-not-agrees-via-then-not-agrees+else-is_none w ↦
+  | goal.else-not-agrees-via-then-not-agrees+else-is_none w ↦
       inr (known_kind c.args.vector.now c.args.number c.ask.result w.known.result
       w.if-is_none.ensures w.known.ensures)
-  | else-not-agrees-via-else-not-agrees w ↦
+  | goal.else-not-agrees-via-else-not-agrees w ↦
       inl (subst (λ r. Agree r c.args.vector.now.answer) c.ask.ensures.only
       (c.agrees.ensures.only_if_all_agree w.if-not-agrees.false c.args.number (omega arith)
       (omega arith)))
