@@ -1,6 +1,7 @@
 -- A use of a transcript: calls in any order and number, the newest first.
 use Rattle.std.specs.Prelude.{◌≡◌, ℕ, List, [], ◌∷◌, ◌++◌, take, drop, Ok, Err}
 use Rattle.charset.specs.Meaning.{Meaning}
+use Rattle.transcript.specs.declared.answers.Done.{Done}
 use Rattle.transcript.specs.declared.answers.Status.{Status}
 use Rattle.transcript.specs.declared.answers.Refusal.TheVariants.{SectorTooLong, OutputTooLong}
 use Rattle.transcript.specs.declared.answers.Refusal.TheVariants.{SourceTooLong, Standing}
@@ -29,26 +30,26 @@ pub data Use (S T : Meaning) : List Event → Snapshot → Type 0 where
   call : {past : List Event} {s t : Snapshot} {e : Event} → Use S T past s → Step S T s e t
       → Use S T (e ∷ past) t
 
--- how many bytes an answer tells taken and written by that offer
+abbrev nothing : Done
+nothing = record { taken = 0; written = 0 }
+
+-- what an answer tells that the offer did
+abbrev pub did : OfferAnswer → Done
+did (Ok d) = d
+did (Err SectorTooLong) = nothing
+did (Err OutputTooLong) = nothing
+did (Err SourceTooLong) = nothing
+did (Err (Standing f)) = nothing
+did (Err AlreadyClosed) = nothing
+did (Err (Faulted f)) = f.done
+did (Err (Full d)) = d
+
+-- how many bytes it took and wrote
 abbrev pub took : OfferAnswer → ℕ
-took (Ok d) = d.taken
-took (Err SectorTooLong) = 0
-took (Err OutputTooLong) = 0
-took (Err SourceTooLong) = 0
-took (Err (Standing f)) = 0
-took (Err AlreadyClosed) = 0
-took (Err (Faulted f)) = f.done.taken
-took (Err (Full d)) = d.taken
+took r = (did r).taken
 
 abbrev pub wrote : OfferAnswer → ℕ
-wrote (Ok d) = d.written
-wrote (Err SectorTooLong) = 0
-wrote (Err OutputTooLong) = 0
-wrote (Err SourceTooLong) = 0
-wrote (Err (Standing f)) = 0
-wrote (Err AlreadyClosed) = 0
-wrote (Err (Faulted f)) = f.done.written
-wrote (Err (Full d)) = d.written
+wrote r = (did r).written
 
 -- the output is as it was behind the bytes that are told as written; the sector is lent to be read
 -- alone, so nothing writes it
