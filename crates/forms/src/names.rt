@@ -3,6 +3,8 @@ ghost use Rattle.std.specs.Prelude.{◌≡◌};
 ghost use Rattle.forms.specs.Names.{form_of_word, name_of};
 
 use roll::Form;
+use std::alloc::{AllocError, Global};
+use std::fmt::Write;
 
 /// A form of page by its name, and what such a page is.
 #[derive(Clone, Copy)]
@@ -49,4 +51,15 @@ pub fn form_name(form: Form) -> &'static str
     ensures { result.now ≡ name_of form }
 {
     NAMED_FORMS[usize::from(u8::from(form))].name
+}
+
+/// The forms of page from a number on, each on a line with its number, its name and what its pages
+/// are, for the help of a program.
+pub fn listed_forms(heap: Global, first: usize) -> Result<String, AllocError> {
+    let mut list = String::from_str(heap, "Forms, by number or by name:")?;
+    for (number, form) in NAMED_FORMS.iter().enumerate().skip(first) {
+        let NamedForm { name, page } = *form;
+        write!(list, "\n  {number}  {name:<19}  {page}")?;
+    }
+    Ok(list)
 }

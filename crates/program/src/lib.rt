@@ -96,25 +96,34 @@ pub fn file_name(file: &str) -> &str {
     }
 }
 
-/// The bytes of a file, or of standard input for `-`: the first ones, up to so many.
+/// The first bytes of a file, up to so many; `-` is standard input.
 pub fn read(rt: &HostRuntime, file: &str, at_most: u64) -> Result<Vec<u8>, Ending> {
+    if file != STANDARD_INPUT {
+        return read_file(rt, file, at_most);
+    }
     let mut bytes = Vec::new(rt.alloc());
-    match read_into(rt, file, at_most, &mut bytes) {
-        Ok(()) => Ok(bytes),
-        Err(error) => {
-            let file = file_name(file);
-            Err(Ending::Failed(format!(in rt.alloc(); "cannot read {file}: {error}")?))
-        }
+    match rt.stdin().take(at_most).read_to_end(&mut bytes) {
+        Ok(_) => Ok(bytes),
+        Err(error) => Err(unread(rt, file_name(file), error)?),
     }
 }
 
-fn read_into(rt: &HostRuntime, file: &str, at_most: u64, bytes: &mut Vec<u8>) -> io::Result<()> {
-    if file == STANDARD_INPUT {
-        rt.stdin().take(at_most).read_to_end(bytes)?;
-    } else {
-        fs::open(rt, file)?.take(at_most).read_to_end(bytes)?;
+/// The first bytes of a file of any name, up to so many.
+pub fn read_file(rt: &HostRuntime, file: &str, at_most: u64) -> Result<Vec<u8>, Ending> {
+    let mut bytes = Vec::new(rt.alloc());
+    let done = match fs::open(rt, file) {
+        Ok(opened) => opened.take(at_most).read_to_end(&mut bytes),
+        Err(error) => Err(error),
+    };
+    match done {
+        Ok(_) => Ok(bytes),
+        Err(error) => Err(unread(rt, file, error)?),
     }
-    Ok(())
+}
+
+fn unread(rt: &HostRuntime, file: &str, error: io::Error) -> Result<Ending, AllocError> {
+    let message = format!(in rt.alloc(); "cannot read {file}: {error}")?;
+    Ok(Ending::Failed(message))
 }
 
 /// Writes bytes to standard output.
@@ -136,8 +145,8 @@ pub fn called<'a>(words: &'a [String], name: &'a str) -> &'a str {
 }
 
 /// Says how a program ended, with its name in front, and answers its status.
-pub fn end(rt: &HostRuntime, name: &str, result: Result<(), Ending>) -> ExitCode {
-    let Err(ending) = result else {
+pub fn end(rt: &HostRuntime, name: &str, outcome: Result<(), Ending>) -> ExitCode {
+    let Err(ending) = outcome else {
         return ExitCode::SUCCESS;
     };
     // Where standard error cannot be written, the status alone tells.
