@@ -12,8 +12,9 @@ use std::process::ExitCode;
 const NAME: &str = "finetalc";
 
 const AFTER_HELP: &str = "\
-For each page its text is written, and a line: its number, its form, the number of its characters, \
-and ok, or why its text stops and at which byte, as in 6@18. A refused roll is a number alone.";
+Of each page the text is written, and then a line: the number of the page, its
+form and how many characters were read, and ok, or why no more could be read
+and from which byte on, as in 6@18. A refused roll is a number alone, 14 to 18.";
 
 fn command<'a>(heap: Global) -> Result<Command<'a>, AllocError> {
     let file = Arg::new(heap, "file")

@@ -37,7 +37,8 @@ fn packed(rt: &HostRuntime, words: &[&str]) -> Result<Vec<u8>, Ending> {
             let message = format!(in heap; "no form has the name '{form}'; --help lists them")?;
             return Err(Ending::Usage(message));
         };
-        builder = match builder.with_page(form, &read_file(rt, file, LARGEST_ROLL as u64 + 1)?) {
+        let page = read_file(rt, file, LARGEST_ROLL as u64 + 1)?;
+        builder = match builder.with_page(form, &page) {
             Ok(builder) => builder,
             Err(refusal) => {
                 let message = format!(in heap; "cannot pack {file}: {refusal}")?;
