@@ -34,8 +34,15 @@ example: lib ## builds the example clients, in C and in Python, and transcribes 
 	@echo "in C:" && printf 'caf\302\145 na\310\151ve\n' | target/transcribe 1 6
 	@echo "in Python:" && printf 'caf\302\145 na\310\151ve\n' | examples/transcribe.py 1 6
 
-install: ## puts programs, library and manual pages below PREFIX (/usr/local), after make run lib
+install: target/bin/recode target/lib/libfinetalc.so ## puts programs, library and manual pages below PREFIX (/usr/local)
 	@tools/install "$(DESTDIR)" "$(PREFIX)"
+
+# What `make run` and `make lib` have built is installed as it stands.
+target/bin/recode:
+	@$(MAKE) --no-print-directory run
+
+target/lib/libfinetalc.so:
+	@$(MAKE) --no-print-directory lib
 
 uninstall: ## takes away just what install puts there
 	@tools/install --uninstall "$(DESTDIR)" "$(PREFIX)"

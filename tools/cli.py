@@ -4,13 +4,15 @@
 A case is a command line, what is read, what must be written, the first line that must be said on standard error, and the status.
 """
 import pathlib
+import re
 import shlex
 import subprocess
 import sys
 import tempfile
 
-BIN = pathlib.Path(__file__).resolve().parent.parent / "target/bin"
-VERSION = "0.9.0"
+TOP = pathlib.Path(__file__).resolve().parent.parent
+BIN = TOP / "target/bin"
+VERSION = re.search(r'VERSION: &str = "(.*)"', (TOP / "crates/program/src/lib.rt").read_text()).group(1)
 NAMES = "picture iso6937 iso6937-7bit iso6937-7bit-parity iso8859-16 sami utf8 iso6937-basic".split()
 
 

@@ -24,7 +24,8 @@ fn pages_refused(rt: HostRuntime) -> Result<(), Fail> {
 #[test]
 fn roll_refused(rt: HostRuntime) -> Result<(), Fail> {
     let faults = refused_pages(rt.alloc(), b"0000000000000000")?;
-    assert!(rt; faults.as_slice() == &[RollFault::Refused(RollRefusal::NoMark)]);
+    let no_mark = [RollFault::Refused(RollRefusal::NoMark)];
+    assert!(rt; faults.as_slice() == no_mark.as_slice());
     Ok(())
 }
 

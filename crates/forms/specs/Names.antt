@@ -1,6 +1,6 @@
 -- The words for each form of page.
-use Rattle.std.specs.Prelude.{ℕ, List, [], ◌∷◌, codes, Option, position, unwrap_or, slice_get}
-use Rattle.std.specs.Prelude.{option_and_then}
+use Rattle.std.specs.Prelude.{ℕ, List, [], ◌∷◌, codes, Option, position, unwrap_or}
+use Rattle.std.specs.Prelude.{slice_get, option_and_then}
 use Rattle.std.specs.List.{list_any}
 use Rattle.std.specs.Str.{bytes_eq}
 use Rattle.roll.specs.declared.page.Form.{Form}

@@ -3,6 +3,7 @@
 
 ghost use Rattle.std.specs.Prelude.{◌≡◌};
 ghost use Rattle.program.specs.Endings.{status_of};
+ghost use Rattle.program.specs.Files.{shown_name};
 
 use clap::{ArgMatches, Command};
 use std::alloc::AllocError;
@@ -88,7 +89,9 @@ fn told(rt: &HostRuntime, error: &clap::Error) -> Result<Ending, AllocError> {
 }
 
 /// What messages call a file.
-pub fn file_name(file: &str) -> &str {
+pub fn file_name(file: &str) -> &str
+    ensures { result.now ≡ shown_name file.now }
+{
     if file == STANDARD_INPUT {
         "standard input"
     } else {

@@ -1,6 +1,10 @@
 //! From one form of text into another: `recode SOURCE TARGET [FILE]`.
 #![tactic(auto)]
 
+ghost use Rattle.std.specs.Prelude.{◌≡◌, IfOk};
+ghost use Rattle.roll.specs.Forms.{form_number};
+ghost use Rattle.forms.specs.Names.{form_of_word};
+
 use clap::{Arg, Command};
 use forms::{FormSet, form_of_word, listed_forms};
 use program::{Ending, VERSION, arguments, called, end, file_name, read, words, write};
@@ -35,7 +39,9 @@ fn command<'a>(heap: Global, forms: &'a str) -> Result<Command<'a>, AllocError> 
 }
 
 /// The form of text that a word gives.
-fn form(heap: Global, word: &str) -> Result<Form, Ending> {
+fn form(heap: Global, word: &str) -> Result<Form, Ending>
+    ensures { IfOk result (λ f. form_of_word word.now ≡ Some (form_number f)) }
+{
     match form_of_word(word).map(Form::try_from) {
         Some(Ok(form)) => Ok(form),
         Some(Err(_)) => Err(Ending::Usage(format!(in heap; "a picture has no text: '{word}'")?)),

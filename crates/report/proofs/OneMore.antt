@@ -1,5 +1,6 @@
 -- One place more.
-use Rattle.std.proofs.Common.{◌≡◌, ℕ, ◌+◌, List, ◌++◌, sym, ◌∙◌, subst, add-one}
+use Rattle.std.proofs.Common.{◌≡◌, ℕ, ◌+◌, List, ◌++◌, sym, ◌∙◌, subst}
+use Rattle.std.proofs.Common.{add-one}
 use Rattle.report.specs.InOrder.{InOrder}
 
 pub one_more : {X : Type 0} (P : ℕ → List X → Type 0) (k m : ℕ) (front part out : List X)

@@ -1,4 +1,5 @@
-use Rattle.std.proofs.Common.{◌≡◌, ◌+◌, ◌++◌, vec_items, ◌∙◌, subst, rules, refl}
+use Rattle.std.proofs.Common.{◌≡◌, ◌+◌, ◌++◌, vec_items, ◌∙◌, subst, rules}
+use Rattle.std.proofs.Common.{refl}
 use Rattle.roll.specs.Pages.{PartAt}
 use Rattle.roll.specs.Rolls.{bytes_of}
 use Rattle.report.specs.Lines.{block_of}
@@ -14,7 +15,10 @@ loop-number-preserved c =
     let l = c.loop-number in
     let read = c.in_ok-read.read in
     let longer : vec_items c.match-read.faults ≡ vec_items l.faults ++ faults_of read.outcome =
-    elim c.match-read.branch [ in-Err+in_ok-push w ↦ search rules | in_default w ↦ search rules ] in
+    elim c.match-read.branch [
+      | in-Err+in_ok-push w ↦ search rules
+      | in_default w ↦ search rules
+    ] in
     let page = c.in-Some.page in
     let s = c.in-Some.ensures.steps in
     let same = l.invariant.0 in
