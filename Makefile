@@ -1,32 +1,48 @@
-.PHONY: run test bench lib example
+.PHONY: help run try test check bench lib example install uninstall
 
-# Proves and builds the programs, then transcribes the sample roll.
-run:
-	@mkdir -p target/bin
+PREFIX = /usr/local
+DESTDIR =
+
+help: ## lists these targets
+	@sed -n 's/^\([a-z]*\):.*## /\1\t/p' Makefile | expand -t 12
+
+run: ## proves and builds the programs into target/bin, and transcribes the sample roll
 	@echo "proving and building finetalc, rollmake and recode (some minutes the first time) ..."
-	@cd crates/finetalc && rt run < stdin > ../../target/run.log 2>&1 || { cat ../../target/run.log; exit 1; }
-	@cd crates/rollmake && rt run -- 1 data/first 2 data/second > ../../target/run.log 2>&1 || { cat ../../target/run.log; exit 1; }
-	@cd crates/recode && rt run -- 2 6 < stdin > ../../target/run.log 2>&1 || { cat ../../target/run.log; exit 1; }
-	@cp crates/finetalc/out/finetalc crates/rollmake/out/rollmake crates/recode/out/recode target/bin/
-	@target/bin/finetalc < crates/finetalc/stdin
+	@tools/programs
+	@target/bin/finetalc crates/finetalc/stdin
 
-# Checks what the tests expect against the standard's names and the system's converter, then everything else.
-test:
+try: run ## runs the programs on a table of cases: arguments, input, output, messages, status
+	@tools/cli.py
+
+test: ## proves everything and runs all tests; its last line is 'N passed, 0 failed'
 	@tools/repertoire.py --check
-	@tools/vectors.py --check
 	@tools/gate
 
-# Holds recode and the C interface against the system's iconv. No part of the test.
-bench: run example
+check: ## proves one crate, quickly: make check CRATE=name
+	@test -n "$(CRATE)" || { echo "make check CRATE=name, a crate of crates.txt"; exit 2; }
+	@cd crates/$(CRATE) && rt check
+
+bench: run example ## measures recode and the C interface beside the system's iconv
 	@bench/bench.py
 
-# Proves and builds the library for clients in C, target/lib/libfinetalc.a and libfinetalc.so. No part of the test.
-lib:
+lib: ## proves and builds the library for clients in C, target/lib/libfinetalc.a and libfinetalc.so
 	@echo "proving and building libfinetalc (some minutes the first time) ..."
 	@tools/library
 
-# Builds the example clients and transcribes a line with each: in C, and in Python by ctypes.
-example: lib
+example: lib ## builds the example clients, in C and in Python, and transcribes a line with each
 	@cc -std=c99 -pedantic -Wall -Wextra -Werror -O2 -Iinclude examples/transcribe.c target/lib/libfinetalc.a -o target/transcribe
 	@echo "in C:" && printf 'caf\302\145 na\310\151ve\n' | target/transcribe 1 6
 	@echo "in Python:" && printf 'caf\302\145 na\310\151ve\n' | examples/transcribe.py 1 6
+
+install: target/bin/recode target/lib/libfinetalc.so ## puts programs, library and manual pages below PREFIX (/usr/local)
+	@tools/install "$(DESTDIR)" "$(PREFIX)"
+
+# What `make run` and `make lib` have built is installed as it stands.
+target/bin/recode:
+	@$(MAKE) --no-print-directory run
+
+target/lib/libfinetalc.so:
+	@$(MAKE) --no-print-directory lib
+
+uninstall: ## takes away just what install puts there
+	@tools/install --uninstall "$(DESTDIR)" "$(PREFIX)"

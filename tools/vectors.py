@@ -1,8 +1,9 @@
 #!/usr/bin/env python3
 """Makes the vectors of `conformance` with the system's converter, glibc's iconv(3), which shares no code with ours.
 
-    tools/vectors.py            write crates/conformance/stdin
-    tools/vectors.py --check    fail if that file is not what the converter gives
+    tools/vectors.py            write crates/conformance/stdin, and tools/vectors.version: which converter gave it
+    tools/vectors.py --check    fail if that file is not what the same converter gives; where this system has another
+                                version, or none, say so and go on
 
 A vector is a line of five words. `read 6937 C241 C241 C1/2`: every string from C2 41 to C2 41 (only the last byte runs)
 begins with U+00C1, coded in 2 bytes; in place of the last word `open` says that the string is incomplete, and `refused` that
@@ -16,11 +17,26 @@ import sys
 
 import stored
 
+VERSION = pathlib.Path(__file__).resolve().parent / "vectors.version"
 PATH = pathlib.Path(__file__).resolve().parent.parent / "crates/conformance/stdin"
 # Our names of the sets, and the converter's.
 SETS = {"6937": "ISO_6937", "8859-16": "ISO-8859-16", "sami": "ISO-IR-209", "utf-8": "UTF-8"}
 SIZE, POINTER = ctypes.c_size_t, ctypes.c_void_p
 FAILED = SIZE(-1).value
+
+
+class NoConverter(Exception):
+    pass
+
+
+def version():
+    """The version of this system's converter."""
+    try:
+        tell = ctypes.CDLL(None).gnu_get_libc_version
+    except AttributeError:
+        return "no glibc"
+    tell.restype = ctypes.c_char_p
+    return "glibc " + tell().decode()
 
 
 class Converter:
@@ -31,9 +47,9 @@ class Converter:
         self.libc.iconv.argtypes = [POINTER] * 5
         self.handle = self.libc.iconv_open(target.encode(), source.encode())
         if self.handle == POINTER(-1).value:
-            sys.exit(
-                "tools/vectors.py: this system's iconv cannot convert %s to %s. The converters come with glibc: on Debian "
-                "in the package libc6, on Fedora in glibc-gconv-extra." % (source, target)
+            raise NoConverter(
+                "tools/vectors.py: this system's iconv cannot convert %s to %s. The converters come with glibc: on Debian in the package "
+                "libc6, on Fedora in glibc-gconv-extra." % (source, target)
             )
         self.output = ctypes.create_string_buffer(16)
 
@@ -128,4 +144,18 @@ def vectors():
     yield from writes("utf-8", edges())
 
 
-stored.keep(PATH, vectors(), "this system's converter gives")
+def main():
+    here, stored_for = version(), VERSION.read_text().strip() if VERSION.exists() else "none"
+    other = sys.argv[1:] == ["--check"] and here != stored_for
+    try:
+        stored.keep(PATH, vectors(), "this system's converter gives")
+    except (NoConverter, SystemExit) as told:
+        if not other:
+            sys.exit(str(told))
+        print("%s\ntools/vectors.py: the vectors are those of %s, and this system has %s; they stay as they are" % (told, stored_for, here))
+        return
+    if not sys.argv[1:]:
+        VERSION.write_text(here + "\n")
+
+
+main()

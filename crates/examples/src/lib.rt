@@ -10,6 +10,8 @@ mod demonstrations;
 mod layer_examples;
 mod odd;
 #[cfg(test)]
+mod refusals;
+#[cfg(test)]
 mod rolls;
 #[cfg(test)]
 mod set_examples;

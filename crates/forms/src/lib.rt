@@ -7,11 +7,14 @@ ghost use Rattle.forms.specs.FormSets.{form_set};
 ghost use Rattle.forms.specs.Chosen.{meaning_of};
 ghost use Rattle.forms.specs.Laws.Chosen.{chosen_laws};
 
+mod names;
+
 use charset::{CharacterSet, Coding, Reading, SetRefusal};
 use layers::{
     CharacterList, Controls, Parity, Shift, Subrepertoire, with_controls, with_list, with_parity,
     with_shift,
 };
+pub use names::{form_name, form_of_word, listed_forms};
 use roll::Form;
 use sets::{Iso6937, SingleByte, Utf8};
 use std::alloc::{AllocError, Global};

@@ -1,69 +1,85 @@
-// From one form of text into another, from standard input to standard output: `recode SOURCE
-// TARGET`.
+//! From one form of text into another: `recode SOURCE TARGET [FILE]`.
 #![tactic(auto)]
 
-use anyhow::{Context, anyhow, bail};
-use charset::SetRefusal;
-use conversion::Fault;
-use forms::FormSet;
+ghost use Rattle.std.specs.Prelude.{◌≡◌, IfOk};
+ghost use Rattle.roll.specs.Forms.{form_number};
+ghost use Rattle.forms.specs.Names.{form_of_word};
+
+use clap::{Arg, Command};
+use forms::{FormSet, form_of_word, listed_forms};
+use program::{Ending, VERSION, arguments, called, end, file_name, read, words, write};
+use report::FaultWords;
 use roll::Form;
-use std::env;
-use std::io::{Read, Write};
-use transcript::{Failure, FaultAt, Told, Transcription, transcribe};
+use std::alloc::{AllocError, Global};
+use std::process::ExitCode;
+use transcript::{Failure, Transcription, transcribe};
 
-const USAGE: &str =
-    "usage: recode SOURCE TARGET < TEXT > TEXT, each a form from 1 to 7 (docs/ROLLS.md lists them)";
+const NAME: &str = "recode";
 
-// The set of the form that a word gives by its number.
-fn set_by_number(rt: &HostRuntime, word: &str) -> anyhow::Result<FormSet> {
-    let number = word.parse::<u8>().ok().context(USAGE)?;
-    let form = Form::try_from(number).ok().context(USAGE)?;
-    Ok(FormSet::of(rt.alloc(), form)?)
+fn command<'a>(heap: Global, forms: &'a str) -> Result<Command<'a>, AllocError> {
+    let source = Arg::new(heap, "source")
+        .value_name("SOURCE")
+        .required(true)
+        .help("The form of the text");
+    let target = Arg::new(heap, "target")
+        .value_name("TARGET")
+        .required(true)
+        .help("The form into which it goes");
+    let file = Arg::new(heap, "file")
+        .value_name("FILE")
+        .default_value("-")
+        .help("The text; - is standard input");
+    Command::new(heap, NAME)
+        .version(VERSION)
+        .about("Recodes a text from one form into another")
+        .after_help(forms)
+        .arg(source)?
+        .arg(target)?
+        .arg(file)
 }
 
-// What is said of a text that is not transcribed to its end.
-fn said(failure: Failure) -> anyhow::Error {
-    match failure {
-        Failure::Faulted(at) => refused(at),
-        wanting => wanting.into(),
+/// The form of text that a word gives.
+fn form(heap: Global, word: &str) -> Result<Form, Ending>
+    ensures { IfOk result (λ f. form_of_word word.now ≡ Some (form_number f)) }
+{
+    match form_of_word(word).map(Form::try_from) {
+        Some(Ok(form)) => Ok(form),
+        Some(Err(_)) => Err(Ending::Usage(format!(in heap; "a picture has no text: '{word}'")?)),
+        None => Err(Ending::Usage(format!(in heap;
+            "no form has the name '{word}'; --help lists them"
+        )?)),
     }
 }
 
-// What is said of a fault.
-fn refused(at: FaultAt) -> anyhow::Error {
-    let Told { number, offset, .. } = Told::from(at);
-    match at.fault {
-        Fault::Unread(SetRefusal { cause, depth }) => {
-            anyhow!(
-                "refused {number} at offset {offset}: nothing can be read there, cause {cause}, \
-                 depth {depth} (docs/REFUSALS.md lists the causes)"
-            )
-        }
-        Fault::Unwritten(character) => {
-            anyhow!(
-                "refused {number} at offset {offset}: U+{character:04X} has no coding in the target"
-            )
-        }
-        Fault::Unfinished => {
-            anyhow!(
-                "refused {number} at offset {offset}: the text ends in bytes that wait for more"
-            )
-        }
-    }
-}
-
-fn main(rt: HostRuntime) -> anyhow::Result<()> {
+fn run(rt: &HostRuntime, words: &[String]) -> Result<(), Ending> {
     let heap = rt.alloc();
-    let words: Vec<String> = env::args(&rt)?.skip(1).collect(heap)?;
-    let [source, target] = words.as_slice() else {
-        bail!("{USAGE}");
-    };
-    let source = set_by_number(&rt, source.as_str())?;
-    let target = set_by_number(&rt, target.as_str())?;
-    let mut input = Vec::new(heap);
-    rt.stdin().read_to_end(&mut input)?;
+    let forms = listed_forms(heap, 1)?;
+    let given = arguments(rt, command(heap, forms.as_str())?, words)?;
+    let source = form(heap, given.get_str("source").unwrap_or(""))?;
+    let target = form(heap, given.get_str("target").unwrap_or(""))?;
+    let file = given.get_str("file").unwrap_or("-");
+    let input = read(rt, file, u64::MAX)?;
+    let sets = (FormSet::of(heap, source)?, FormSet::of(heap, target)?);
     let mut done = Transcription::empty(heap);
-    let outcome = transcribe(source, target, &input, &mut done);
-    rt.stdout().write_all(&done.text)?;
-    Ok(outcome.map_err(said)?)
+    let outcome = transcribe(sets.0, sets.1, &input, &mut done);
+    write(rt, &done.text)?;
+    let Err(failure) = outcome else {
+        return Ok(());
+    };
+    let file = file_name(file);
+    let message = match failure {
+        Failure::Faulted(at) => {
+            let words = FaultWords::new(source, target, &input, at);
+            format!(in heap; "{file}: {words}")?
+        }
+        wanting => format!(in heap; "{file}: {wanting}")?,
+    };
+    Err(Ending::Failed(message))
+}
+
+fn main(rt: HostRuntime) -> ExitCode {
+    match words(&rt) {
+        Ok(words) => end(&rt, called(&words, NAME), run(&rt, &words)),
+        Err(ending) => end(&rt, NAME, Err(ending)),
+    }
 }

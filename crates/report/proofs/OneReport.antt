@@ -1,7 +1,7 @@
 -- No input has two reports.
-use Rattle.std.proofs.Common.{◌≡◌, ℕ, zero, suc, ◌+◌, ◌≤◌, ◌⊎◌, List, [], ◌∷◌, ◌++◌, Some, None, Ok}
+use Rattle.std.proofs.Common.{◌≡◌, ℕ, zero, suc, ◌+◌, List, [], ◌∷◌, ◌++◌, Some, None, Ok}
 use Rattle.std.proofs.Common.{Err}
-use Rattle.std.proofs.Common.{Option, Result, refl, sym, ap, ◌∙◌, subst, inl, inr, arith}
+use Rattle.std.proofs.Common.{Option, Result, refl, sym, ap, ◌∙◌, inl, inr, arith}
 use Rattle.conversion.specs.declared.Fault.{Fault}
 use Rattle.conversion.specs.declared.Fault.TheVariants.{Unread, Unwritten, Unfinished}
 use Rattle.roll.specs.declared.page.Form.{Form}
@@ -19,7 +19,7 @@ use Rattle.transcript.specs.Told.{with_fault}
 use Rattle.transcript.specs.Carried.{Outcome, fault_in, offset_in}
 use Rattle.report.specs.declared.fault.RollFault.{RollFault}
 use Rattle.report.specs.Lines.{line_of, block_of}
-use Rattle.report.specs.Texts.{on_page, page_form, IsFormText}
+use Rattle.report.specs.Texts.{on_page, IsFormText}
 use Rattle.report.specs.Reports.{PageBlock, PagesWritten, number_line, InputRefused, OneReport}
 
 -- the number and the offset of a fault that is told

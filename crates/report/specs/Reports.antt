@@ -1,6 +1,6 @@
 -- What is written of a roll.
-use Rattle.std.specs.Prelude.{◌≡◌, ℕ, zero, suc, ◌+◌, ◌<◌, ◌≤◌, ◌⊎◌, List, [], ◌∷◌, ◌++◌, length}
-use Rattle.std.specs.Prelude.{Ok, Err, decimal, Result}
+use Rattle.std.specs.Prelude.{◌≡◌, ℕ, ◌+◌, ◌<◌, ◌≤◌, ◌⊎◌, List, [], ◌∷◌, ◌++◌}
+use Rattle.std.specs.Prelude.{length, Ok, Err, decimal, Result}
 use Rattle.roll.specs.declared.refusal.RollRefusal.{RollRefusal}
 use Rattle.roll.specs.declared.refusal.RollRefusal.TheVariants.{WrongSize}
 use Rattle.report.specs.declared.fault.RollFault.{RollFault}
@@ -15,6 +15,7 @@ use Rattle.roll.specs.Pages.{PartAt}
 use Rattle.report.specs.declared.TheConstants.{LONGEST_INPUT}
 use Rattle.report.specs.Texts.{page_form, IsPageText}
 use Rattle.report.specs.Lines.{block_of}
+use Rattle.report.specs.InOrder.{InOrder}
 
 -- the text of a page by its form, and its line, each with a line feed behind
 pub record PageBlock (n : ℕ) (page : Page) (block : List ℕ) : Type 0 where
@@ -30,9 +31,7 @@ PageWritten b k block = (page : Page) × PartAt b k page × PageBlock (k + 1) pa
 
 -- the first pages, one behind the other
 abbrev pub PagesWritten : List ℕ → ℕ → List ℕ → Type 0
-PagesWritten b zero out = out ≡ []
-PagesWritten b (suc k) out =
-    (front block : List ℕ) × PagesWritten b k front × PageWritten b k block × (out ≡ front ++ block)
+PagesWritten b = InOrder (PageWritten b)
 
 abbrev pub AllPagesWritten : List ℕ → List ℕ → Type 0
 AllPagesWritten b out = PagesWritten b (page_count b) out

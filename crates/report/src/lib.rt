@@ -7,10 +7,14 @@ ghost use Rattle.report.specs.Lines.{line_told};
 ghost use Rattle.report.specs.Reports.{PageBlock, AllPagesWritten, number_line, OpensInput};
 ghost use Rattle.report.specs.Reports.{Reports, OneReport};
 
+mod explain;
 mod fault;
+mod refused;
 mod text;
 
+pub use explain::{FaultWords, RollWords, refused_bytes};
 pub use fault::{RollFault, RollTold};
+pub use refused::refused_pages;
 use roll::{Page, Roll, RollRefusal};
 use std::alloc::{AllocError, Global};
 pub use text::{PageText, form_text, page_text};

@@ -1,37 +1,75 @@
-// Packs page files into a roll: `rollmake FORM FILE [FORM FILE ..] > ROLL`.
+//! Packs page files into a roll: `rollmake FORM FILE [FORM FILE ..]`.
 #![tactic(auto)]
 
-use anyhow::{Context, bail};
-use roll::Builder;
-use std::io::Write;
-use std::{env, fs};
+use clap::{Arg, Command};
+use forms::{form_of_word, listed_forms};
+use program::{Ending, VERSION, arguments, called, end, read_file, words, write};
+use report::LONGEST_INPUT;
+use roll::{Builder, LARGEST_ROLL};
+use std::alloc::{AllocError, Global};
+use std::process::ExitCode;
 
-const USAGE: &str =
-    "usage: rollmake FORM FILE [FORM FILE ..] > ROLL, each form a number from 0 to 7 \
-     (docs/ROLLS.md lists them)";
+const NAME: &str = "rollmake";
 
-fn pack(rt: &HostRuntime) -> anyhow::Result<()> {
-    let words: Vec<String> = env::args(rt)?.skip(1).collect(rt.alloc())?;
-    if words.is_empty() {
-        bail!("{USAGE}");
-    }
-    let mut builder = Builder::new(rt.alloc());
+fn command<'a>(heap: Global, forms: &'a str) -> Result<Command<'a>, AllocError> {
+    let pages = Arg::new(heap, "pages")
+        .value_names(&["FORM", "FILE"])
+        .num_args(2..)
+        .required(true)
+        .help("The form of a page, and the file that has its bytes; -- goes before a file -x");
+    Command::new(heap, NAME)
+        .version(VERSION)
+        .about("Packs files, each a page, into a roll")
+        .after_help(forms)
+        .arg(pages)
+}
+
+/// The roll of the pages that words give, each by a form and a file.
+fn packed(rt: &HostRuntime, words: &[&str]) -> Result<Vec<u8>, Ending> {
+    let heap = rt.alloc();
+    let mut builder = Builder::new(heap);
     for pair in words.chunks(2) {
-        let form = pair[0].as_str().parse::<u8>().ok().context(format_args!(
-            "{}: a form is a number from 0 to 7",
-            pair[0].as_str()
-        ))?;
-        let file = pair.get(1).context("the last form has no file")?;
-        let page = fs::read(rt, file.as_str()).context(format_args!("cannot read {file}"))?;
-        builder = builder
-            .with_page(form, &page)
-            .context(format_args!("cannot pack {file}"))?;
+        let [form, file] = *pair else {
+            let message = format!(in heap; "the last form has no file")?;
+            return Err(Ending::Usage(message));
+        };
+        let Some(form) = form_of_word(form) else {
+            let message = format!(in heap; "no form has the name '{form}'; --help lists them")?;
+            return Err(Ending::Usage(message));
+        };
+        let page = read_file(rt, file, LARGEST_ROLL as u64 + 1)?;
+        builder = match builder.with_page(form, &page) {
+            Ok(builder) => builder,
+            Err(refusal) => {
+                let message = format!(in heap; "cannot pack {file}: {refusal}")?;
+                return Err(Ending::Failed(message));
+            }
+        };
     }
-    let roll = builder.finish()?;
-    rt.stdout().write_all(&roll)?;
+    Ok(builder.finish()?)
+}
+
+fn run(rt: &HostRuntime, words: &[String]) -> Result<(), Ending> {
+    let heap = rt.alloc();
+    let forms = listed_forms(heap, 0)?;
+    let given = arguments(rt, command(heap, forms.as_str())?, words)?;
+    let roll = packed(rt, given.get_strs("pages").unwrap_or(&[]))?;
+    write(rt, &roll)?;
+    if roll.len() > LONGEST_INPUT {
+        let name = called(words, NAME);
+        let size = roll.len();
+        // The roll is written all the same.
+        let _ = eprintln!(rt;
+            "{name}: warning: the roll has {size} bytes, and finetalc reads \
+            up to {LONGEST_INPUT}"
+        );
+    }
     Ok(())
 }
 
-fn main(rt: HostRuntime) -> anyhow::Result<()> {
-    pack(&rt)
+fn main(rt: HostRuntime) -> ExitCode {
+    match words(&rt) {
+        Ok(words) => end(&rt, called(&words, NAME), run(&rt, &words)),
+        Err(ending) => end(&rt, NAME, Err(ending)),
+    }
 }
