@@ -1,7 +1,7 @@
 -- No input has two reports.
-use Rattle.std.proofs.Common.{◌≡◌, ℕ, zero, suc, ◌+◌, List, [], ◌∷◌, ◌++◌, Some, None, Ok}
-use Rattle.std.proofs.Common.{Err}
-use Rattle.std.proofs.Common.{Option, Result, refl, sym, ap, ◌∙◌, inl, inr, arith}
+use Rattle.std.proofs.Common.{◌≡◌, ℕ, zero, suc, ◌+◌, List, [], ◌∷◌, ◌++◌}
+use Rattle.std.proofs.Common.{Some, None, Ok, Err, Option, Result, refl, sym, ap, ◌∙◌, inl}
+use Rattle.std.proofs.Common.{inr, arith}
 use Rattle.conversion.specs.declared.Fault.{Fault}
 use Rattle.conversion.specs.declared.Fault.TheVariants.{Unread, Unwritten, Unfinished}
 use Rattle.roll.specs.declared.page.Form.{Form}
@@ -23,7 +23,8 @@ use Rattle.report.specs.Texts.{on_page, IsFormText}
 use Rattle.report.specs.Reports.{PageBlock, PagesWritten, number_line, InputRefused, OneReport}
 
 -- the number and the offset of a fault that is told
-told_number : (t : Told) (o : ℕ) (d : Done) (x : Fault) → (with_fault t o d x).number ≡ t.number
+told_number : (t : Told) (o : ℕ) (d : Done) (x : Fault)
+    → (with_fault t o d x).number ≡ t.number
 told_number t o d (Unread q) = refl
 told_number t o d (Unwritten c) = refl
 told_number t o d Unfinished = refl
@@ -73,8 +74,8 @@ form_once n f s text text' c c' r r' (inr a) (inl b) = absurd (omega arith)
 form_once n f s text text' c c' r r' (inr a) (inr b) =
     same_block n (Some f) (a.1 ∙ sym b.1) (a.2 ∙ sym b.2) (a.3 ∙ sym b.3)
 
-page_once : (b : List ℕ) (k n : ℕ) (p q : Page) (x y : List ℕ) → PartAt b k p → PartAt b k q
-    → PageBlock n p x → PageBlock n q y → x ≡ y
+page_once : (b : List ℕ) (k n : ℕ) (p q : Page) (x y : List ℕ) → PartAt b k p
+    → PartAt b k q → PageBlock n p x → PageBlock n q y → x ≡ y
 page_once b k n (Text f part at) (Text g part' at') x y h i u v =
     let same : g ≡ f = same_form g f (sym i.0 ∙ h.0) in
     let bytes : part'.now ≡ part.now = i.1 ∙ sym h.1 in
@@ -104,7 +105,8 @@ pages_once b (suc k) out out' h i =
     page_once b k (k + 1) h.3.0 i.3.0 h.1 i.1 h.3.1 i.3.1 h.3.2 i.3.2 in
     rw (h.4, i.4, front, block) refl
 
-refused_once : (b : List ℕ) (e f : RollRefusal) → InputRefused b e → InputRefused b f → e ≡ f
+refused_once : (b : List ℕ) (e f : RollRefusal) → InputRefused b e → InputRefused b f
+    → e ≡ f
 refused_once b e f (inl h) (inl i) = h.1 ∙ sym i.1
 refused_once b e f (inl h) (inr i) = absurd (omega arith)
 refused_once b e f (inr h) (inl i) = absurd (omega arith)
@@ -112,7 +114,8 @@ refused_once b e f (inr h) (inr i) = (one_answer b).one_refusal e f h.1 i.1
 
 pub one_report : (b : List ℕ) → OneReport b
 one_report b out out' (inl h) (inl i) =
-    h.2 ∙ ap (λ e. number_line (refusal_told e).number) (refused_once b h.0 i.0 h.1 i.1) ∙ sym i.2
+    h.2 ∙ ap (λ e. number_line (refusal_told e).number) (refused_once b h.0 i.0 h.1 i.1)
+    ∙ sym i.2
 one_report b out out' (inl (e, inl h, w)) (inr i) = absurd (omega arith)
 one_report b out out' (inl (e, inr h, w)) (inr i) =
     absurd ((one_answer b).not_both e h.1 i.1)

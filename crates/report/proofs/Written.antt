@@ -1,6 +1,7 @@
 -- Every character of every form has a coding in UTF-8.
-use Rattle.std.proofs.Common.{◌≡◌, ℕ, true, List, [], ◌∷◌, take, drop, Some, None, Ok, Err, Option}
-use Rattle.std.proofs.Common.{Result, length, sym, refl, ◌∙◌, subst, inl, inr, arith}
+use Rattle.std.proofs.Common.{◌≡◌, ℕ, true, List, [], ◌∷◌, take, drop, Some, None}
+use Rattle.std.proofs.Common.{Ok, Err, Option, Result, length, sym, refl, ◌∙◌, subst, inl}
+use Rattle.std.proofs.Common.{inr, arith}
 use Rattle.std.proofs.lemmas.Option.{none-some}
 use Rattle.charset.specs.Meaning.{Meaning, Codes, Laws}
 use Rattle.sets.specs.Iso6937.{iso6937}
@@ -36,7 +37,8 @@ InUtf8 c = (v : List ℕ) × (utf8.codings.string c ≡ Some v)
 abbrev AllInUtf8 : Meaning → Type 0
 AllInUtf8 m = (s : List ℕ) (c : ℕ) → Codes m s c → InUtf8 c
 
-table_written : (columns : List (List ℕ)) → all_low columns ≡ true → AllInUtf8 (single_byte columns)
+table_written : (columns : List (List ℕ)) → all_low columns ≡ true
+    → AllInUtf8 (single_byte columns)
 table_written columns ok [] c e = cc
 table_written columns ok (a ∷ b ∷ s) c e = cc
 table_written columns ok (b ∷ []) c e = low_written c (low_at columns ok b c e)

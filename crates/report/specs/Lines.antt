@@ -1,6 +1,6 @@
 -- The line on how a page went.
-use Rattle.std.specs.Prelude.{ℕ, List, [], ◌∷◌, ◌++◌, Some, None, Ok, Err, codes, decimal, Option}
-use Rattle.std.specs.Prelude.{Result}
+use Rattle.std.specs.Prelude.{ℕ, List, [], ◌∷◌, ◌++◌, Some, None, Ok, Err, codes}
+use Rattle.std.specs.Prelude.{decimal, Option, Result}
 use Rattle.report.specs.declared.fault.RollFault.{RollFault}
 use Rattle.roll.specs.declared.page.Form.{Form}
 use Rattle.roll.specs.Forms.{form_number}

@@ -1,6 +1,6 @@
 -- What is written of a roll.
-use Rattle.std.specs.Prelude.{◌≡◌, ℕ, ◌+◌, ◌<◌, ◌≤◌, ◌⊎◌, List, [], ◌∷◌, ◌++◌}
-use Rattle.std.specs.Prelude.{length, Ok, Err, decimal, Result}
+use Rattle.std.specs.Prelude.{◌≡◌, ℕ, ◌+◌, ◌<◌, ◌≤◌, ◌⊎◌, List, []}
+use Rattle.std.specs.Prelude.{◌∷◌, ◌++◌, length, Ok, Err, decimal, Result}
 use Rattle.roll.specs.declared.refusal.RollRefusal.{RollRefusal}
 use Rattle.roll.specs.declared.refusal.RollRefusal.TheVariants.{WrongSize}
 use Rattle.report.specs.declared.fault.RollFault.{RollFault}
@@ -43,7 +43,8 @@ number_line n = decimal n ++ (0x0a ∷ [])
 -- an input over 65,536 bytes is refused by 14, and any other as a roll is
 abbrev pub InputRefused : List ℕ → RollRefusal → Type 0
 InputRefused b e =
-    ((LONGEST_INPUT < length b) × (e ≡ WrongSize)) ⊎ ((length b ≤ LONGEST_INPUT) × Refuses b e)
+    ((LONGEST_INPUT < length b) × (e ≡ WrongSize))
+    ⊎ ((length b ≤ LONGEST_INPUT) × Refuses b e)
 
 abbrev pub OpensInput : List ℕ → Result Roll RollFault → Type 0
 OpensInput b (Ok roll) = (length b ≤ LONGEST_INPUT) × (bytes_of roll ≡ b)

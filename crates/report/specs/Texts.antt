@@ -1,6 +1,6 @@
 -- The text of a page.
-use Rattle.std.specs.Prelude.{◌≡◌, ℕ, ◌<◌, ◌≤◌, ◌⊎◌, List, [], length, Some, None, Ok, Err}
-use Rattle.std.specs.Prelude.{vec_items, Option, Result, ◌≢◌}
+use Rattle.std.specs.Prelude.{◌≡◌, ℕ, ◌<◌, ◌≤◌, ◌⊎◌, List, [], length}
+use Rattle.std.specs.Prelude.{Some, None, Ok, Err, vec_items, Option, Result, ◌≢◌}
 use Rattle.transcript.specs.declared.TheConstants.{LONGEST_SOURCE}
 use Rattle.sets.specs.Utf8.{utf8}
 use Rattle.conversion.specs.declared.Fault.{Fault}
@@ -54,14 +54,16 @@ IsFormText n f part text characters r =
 abbrev pub IsPageText : ℕ → Page → (text : List ℕ) → (characters : ℕ)
     → Result (Unit {0}) RollFault → Type 0
 IsPageText n (Text f part at) text characters r = IsFormText n f part.now text characters r
-IsPageText n (Picture part at) text characters r = (text ≡ []) × (characters ≡ 0) × (r ≡ Ok tt)
+IsPageText n (Picture part at) text characters r = (text ≡ []) × (characters ≡ 0)
+    × (r ≡ Ok tt)
 
 abbrev pub IsTextOf : ℕ → Page → PageText → Type 0
 IsTextOf n page t = IsPageText n page (vec_items t.text) t.characters t.outcome
 
 -- the answer to a page: all of it or a fault is told, with its text; and where memory is wanting
 -- nothing is said of that
-abbrev pub TranscribesPage : ℕ → Page → Transcription → Result (Unit {0}) PageFailure → Type 0
+abbrev pub TranscribesPage : ℕ → Page → Transcription → Result (Unit {0}) PageFailure
+    → Type 0
 TranscribesPage n p t (Ok u) = IsPageText n p (vec_items t.text) t.characters (Ok tt)
 TranscribesPage n p t (Err page.NoMemory) = Unit {0}
 TranscribesPage n p t (Err (page.Fault f)) = IsPageText n p (vec_items t.text) t.characters (Err f)
