@@ -1,16 +1,21 @@
 #!/usr/bin/env python3
 """Plants bugs in the code, one at a time, and lists those that the proofs let through.
 
-    tools/planted.py make NAME..   writes target/planted/NAME.txt: for each function some wrong edits of its body
-    tools/planted.py run [NAME..]  tries each edit of a crate's lists (of every crate that has one, if no name is given) on a copy of
-                                   the repository: tools/planted/NAME.txt, written by hand, and target/planted/NAME.txt, if it was made
-    tools/planted.py bare [NAME..] lists the functions with a contract that no edit of tools/planted/NAME.txt changes
+    tools/planted.py make NAME..    writes target/planted/NAME.txt: for each function some wrong
+                                    edits of its body
+    tools/planted.py run [NAME..]   tries each edit of a crate's lists on a copy of the repository:
+                                    tools/planted/NAME.txt, written by hand, and
+                                    target/planted/NAME.txt, if it was made; those of every crate
+                                    that has one, if no name is given
+    tools/planted.py bare [NAME..]  lists the functions with a contract that no edit of
+                                    tools/planted/NAME.txt changes
 
-An edit is a block of lines: `plant:` with a name and the function, `file:`, and then
-pairs of `old:` and `new:`, one line each, where the old text stands in the file exactly once. An edit ends as refused (a fact no longer
-holds), bad (it does not compile, or a proof file names what it took away, so it says nothing), or survivor. A survivor in a program is also run: it counts as told where the
-program prints another output. A line `known:` in a block says why the edit survives: it means the same, or it touches what no contract can say.
-The status is 0 where no other edit survives.
+An edit is a block of lines: `plant:` with a name and the function, `file:`, and then pairs of
+`old:` and `new:`, one line each, where the old text stands in the file exactly once. An edit ends
+as refused (a fact no longer holds), bad (it does not compile, or a proof file names what it took
+away, so it says nothing), or survivor. A survivor in a program is also run: it counts as told where
+the program prints another output. A line `known:` in a block says why the edit survives: it means
+the same, or it touches what no contract can say. The status is 0 where no other edit survives.
 """
 import pathlib
 import re
@@ -28,7 +33,7 @@ HEAD = re.compile(r"^(\s*)(?:pub(?:\(crate\))? )?(?:const )?(?:extern \S+ )?fn (
 
 
 def functions(lines):
-    """The functions of a file: name, lines of the head, lines of the body. Functions of tests are left out."""
+    """The functions of a file but tests: name, lines of the head, lines of the body."""
     at = 0
     tests = False
     while at < len(lines):
@@ -58,51 +63,96 @@ def number(match):
     return f"0x{value:X}" if word.startswith("0x") else str(value)
 
 
+# Kind, pattern, and what takes its place.
 SWAPS = [
-    ("compare", r" < ", " <= "), ("compare", r" <= ", " < "), ("compare", r" > ", " >= "), ("compare", r" >= ", " > "),
-    ("compare", r" == ", " != "), ("compare", r" != ", " == "),
-    ("operator", r" \+ ", " - "), ("operator", r" - ", " + "), ("operator", r" \* ", " + "), ("operator", r" / ", " * "),
-    ("operator", r" << ", " >> "), ("operator", r" >> ", " << "), ("operator", r" & ", " | "), ("operator", r" \+= ", " = "),
-    ("logic", r" && ", " || "), ("logic", r" \|\| ", " && "), ("logic", r"if !", "if "), ("logic", r"if (?!let)", "if !"),
-    ("logic", r"\btrue\b", "false"), ("logic", r"\bfalse\b", "true"),
-    ("range", r"\.\.=", ".."), ("range", r"\[(\w+)\.\.\]", "[0..]"), ("range", r"\[\.\.(\w+)\]", "[..0]"),
+    ("compare", r" < ", " <= "),
+    ("compare", r" <= ", " < "),
+    ("compare", r" > ", " >= "),
+    ("compare", r" >= ", " > "),
+    ("compare", r" == ", " != "),
+    ("compare", r" != ", " == "),
+    ("operator", r" \+ ", " - "),
+    ("operator", r" - ", " + "),
+    ("operator", r" \* ", " + "),
+    ("operator", r" / ", " * "),
+    ("operator", r" << ", " >> "),
+    ("operator", r" >> ", " << "),
+    ("operator", r" & ", " | "),
+    ("operator", r" \+= ", " = "),
+    ("logic", r" && ", " || "),
+    ("logic", r" \|\| ", " && "),
+    ("logic", r"if !", "if "),
+    ("logic", r"if (?!let)", "if !"),
+    ("logic", r"\btrue\b", "false"),
+    ("logic", r"\bfalse\b", "true"),
+    ("range", r"\.\.=", ".."),
+    ("range", r"\[(\w+)\.\.\]", "[0..]"),
+    ("range", r"\[\.\.(\w+)\]", "[..0]"),
     ("constant", r"(?<![\w.\"'\\])(0x[0-9A-Fa-f_]+|\d[\d_]*)(?![\w\"'])", number),
-    ("call", r"\.is_some\(\)", ".is_none()"), ("call", r"\.is_none\(\)", ".is_some()"), ("call", r"\.any\(", ".all("),
-    ("call", r"\.all\(", ".any("), ("call", r"saturating_sub", "saturating_add"), ("call", r"\.min\(", ".max("),
-    ("call", r"\.skip\(", ".take("), ("call", r"\.take\(", ".skip("),
-    ("case", r"=> Some\(.*\),$", "=> None,"), ("case", r"^(\s*)Some\(.*\)$", r"\1None"), ("case", r"=> Ok\(Some\(.*\)\),$", "=> Ok(None),"),
-    ("swap", r"\b(\w+)\((\w+), (\w+)\)", r"\1(\3, \2)"), ("swap", r"\(&?(\w+), &?(\w+), ", r"(\2, \1, "),
-    ("write", r"^(\s*)[\w.]+(\[.*\])? [+|&-]?= .*;$", r"\1;"), ("write", r"^(\s*)[\w.]+\.(push|extend_from_slice|copy_from_slice)\(.*;$", r"\1;"),
+    ("call", r"\.is_some\(\)", ".is_none()"),
+    ("call", r"\.is_none\(\)", ".is_some()"),
+    ("call", r"\.any\(", ".all("),
+    ("call", r"\.all\(", ".any("),
+    ("call", r"saturating_sub", "saturating_add"),
+    ("call", r"\.min\(", ".max("),
+    ("call", r"\.skip\(", ".take("),
+    ("call", r"\.take\(", ".skip("),
+    ("case", r"=> Some\(.*\),$", "=> None,"),
+    ("case", r"^(\s*)Some\(.*\)$", r"\1None"),
+    ("case", r"=> Ok\(Some\(.*\)\),$", "=> Ok(None),"),
+    ("swap", r"\b(\w+)\((\w+), (\w+)\)", r"\1(\3, \2)"),
+    ("swap", r"\(&?(\w+), &?(\w+), ", r"(\2, \1, "),
+    ("write", r"^(\s*)[\w.]+(\[.*\])? [+|&-]?= .*;$", r"\1;"),
+    ("write", r"^(\s*)[\w.]+\.(push|extend_from_slice|copy_from_slice)\(.*;$", r"\1;"),
 ]
 
-
+# By what a function returns, what a body may begin with.
 EARLY = [
-    (r"-> Option<", "return None;"), (r"-> bool", "return true;"), (r"-> bool", "return false;"), (r"-> (u8|u32|u64|usize)\b", "return 0;"),
-    (r"-> Result<Reading, SetRefusal>", "return Ok(Reading::Open);"), (r"-> Result<Option<", "return Ok(None);"), (r"-> Result<\(\)", "return Ok(());"),
+    (r"-> Option<", "return None;"),
+    (r"-> bool", "return true;"),
+    (r"-> bool", "return false;"),
+    (r"-> (u8|u32|u64|usize)\b", "return 0;"),
+    (r"-> Result<Reading, SetRefusal>", "return Ok(Reading::Open);"),
+    (r"-> Result<Option<", "return Ok(None);"),
+    (r"-> Result<\(\)", "return Ok(());"),
 ]
+
+WORDS = set(
+    "let if else match for in return self mut heap break as move loop while continue true "
+    "false".split()
+)
+NAME = r"[a-z_]\w*\b(?![(!:])"
+
+
+def put(line, found, new):
+    """The line with the new text in the place of what was found."""
+    return line[: found.start()] + new + line[found.end() :]
 
 
 def edits(lines, head, body, whole):
     """The edits of a body: kind, old line, new line."""
     code = [lines[at] for at in body if not re.match(CODE, lines[at])]
     words = "\n".join(code)
-    names = set(re.findall(r"(?<![.\w:])[a-z_]\w*\b(?![(!:])", words)) - set("let if else match for in return self mut heap break as move loop while continue true false".split())
+    names = set(re.findall(r"(?<![.\w:])" + NAME, words)) - WORDS
     fields = set(re.findall(r"\bself\.(\w+)\b(?!\()", words))
-    signature = " ".join(lines[head.start:body.start])
+    signature = " ".join(lines[head.start : body.start])
     signature = signature[: signature.find(" ensures ")] if " ensures " in signature else signature
     for old in code:
         if whole.count(old.strip()) != 1:
             continue
         for kind, pattern, new in SWAPS:
             for found in re.finditer(pattern, old):
-                yield kind, old, old[: found.start()] + (found.expand(new) if isinstance(new, str) else new(found)) + old[found.end():]
+                text = found.expand(new) if isinstance(new, str) else new(found)
+                yield kind, old, put(old, found, text)
         for found in re.finditer(r"(?<=\bself\.)\w+\b(?!\()", old):
             for name in sorted(fields - {found.group()}):
-                yield "operand", old, old[: found.start()] + name + old[found.end():]
-        for found in re.finditer(r"(?<![.\w:\"'])[a-z_]\w*\b(?![(!:])", old):
+                yield "operand", old, put(old, found, name)
+        for found in re.finditer(r"(?<![.\w:\"'])" + NAME, old):
+            bound = rf"let (mut )?\(?[\w, ]*\b{found.group()}\b.*=.*"
+            if found.group() not in names or re.search(bound, old[: found.end() + 3]):
+                continue
             for name in sorted(names - {found.group()}):
-                if found.group() in names and not re.search(rf"let (mut )?\(?[\w, ]*\b{found.group()}\b.*=.*", old[: found.end() + 3]):
-                    yield "operand", old, old[: found.start()] + name + old[found.end():]
+                yield "operand", old, put(old, found, name)
     for old in code[:1]:
         for pattern, new in EARLY:
             if whole.count(old.strip()) == 1 and re.search(pattern, signature):
@@ -112,10 +162,17 @@ def edits(lines, head, body, whole):
 def chosen(found):
     """Some edits, of as many kinds and lines as there are."""
     out, seen = [], set()
+
+    def often(edit):
+        """How often the kind and the line were taken. An operand is the last choice, since most
+        do not fit in their type."""
+        kind, line, _ = edit
+        kinds = sum(kind == one[0] for one in out) + 2 * (kind == "operand")
+        return kinds, sum(line == one[1] for one in out)
+
     rest = [it for number, it in enumerate(found) if it not in found[:number]]
     while rest and len(out) < EACH:
-        # An operand is the last choice, since most do not fit in their type.
-        best = min(rest, key=lambda it: (sum(it[0] == one[0] for one in out) + 2 * (it[0] == "operand"), sum(it[1] == one[1] for one in out)))
+        best = min(rest, key=often)
         rest.remove(best)
         if best[2] not in seen:
             seen.add(best[2])
@@ -125,12 +182,17 @@ def chosen(found):
 
 def make(name):
     blocks = []
-    for file in sorted((TOP / "crates" / name / "src").rglob("*.rt")):
+    crate = TOP / "crates" / name
+    for file in sorted((crate / "src").rglob("*.rt")):
         whole = file.read_text()
         lines = whole.split("\n")
         for function, head, body in functions(lines):
-            for count, (kind, old, new) in enumerate(chosen(list(edits(lines, head, body, whole))), 1):
-                blocks.append(f"plant: {function}_{kind}_{count}\nfile: {file.relative_to(TOP / 'crates' / name)}\nold: {old.strip()}\nnew: {new.strip()}\n")
+            some = chosen(list(edits(lines, head, body, whole)))
+            for count, (kind, old, new) in enumerate(some, 1):
+                blocks.append(
+                    f"plant: {function}_{kind}_{count}\nfile: {file.relative_to(crate)}\n"
+                    f"old: {old.strip()}\nnew: {new.strip()}\n"
+                )
     MADE.mkdir(parents=True, exist_ok=True)
     (MADE / f"{name}.txt").write_text("\n".join(blocks))
     print(f"{name}: {len(blocks)} edits")
@@ -139,10 +201,11 @@ def make(name):
 def listed(name):
     """The edits of a crate's lists: name, text, and the whole block."""
     lists = [folder / f"{name}.txt" for folder in (LISTS, MADE)]
-    blocks = [block for one in lists if one.exists() for block in one.read_text().strip("\n").split("\n\n")]
-    for block in filter(None, blocks):
-        lines = block.split("\n")
-        yield lines[0][7:], "\n".join(line for line in lines[1:] if not line.startswith("known: ")), block
+    texts = [one.read_text().strip("\n") for one in lists if one.exists()]
+    for block in (block for text in texts for block in text.split("\n\n") if block):
+        plant, *lines = block.split("\n")
+        text = "\n".join(line for line in lines if not line.startswith("known: "))
+        yield plant.removeprefix("plant: "), text, block
 
 
 def has_contract(lines, head):
@@ -151,7 +214,8 @@ def has_contract(lines, head):
         return True
     if not lines[head.start].startswith(" "):
         return False
-    above = next(at for at in range(head.start, -1, -1) if lines[at].startswith(("impl", "pub trait", "trait")))
+    begins = ("impl", "pub trait", "trait")
+    above = next(at for at in range(head.start, -1, -1) if lines[at].startswith(begins))
     return any(re.match(r"\s+ghost \w+ = ", line) for line in lines[above : head.start])
 
 
@@ -169,19 +233,36 @@ def bare(name):
                 yield f"{name}/{file.relative_to(source)}:{head.start + 1}: {function}"
 
 
+# How a line of `rt must-fail` begins, and what it says of the edit.
+KINDS = [
+    ("refused, as it must be (only because", "bad"),
+    ("refused", "refused"),
+    ("BAD", "bad"),
+    ("NOT REFUSED", "survivor"),
+]
+
+
 def tried(top, name, plants):
-    """What comes of each edit, in a copy of the repository: refused, bad or survivor, with the first error."""
+    """What comes of each edit, in a copy of the repository: its kind, and rt's first line."""
     folder = top / "crates" / name / "must-fail"
     shutil.rmtree(folder, ignore_errors=True)
     folder.mkdir()
     for count, (_, text, _) in enumerate(plants):
         (folder / f"{count:03}.edit").write_text(text + "\n")
-    ran = subprocess.run(["rt", "must-fail", name], cwd=top, stdout=subprocess.PIPE, stderr=subprocess.STDOUT, text=True, errors="replace", check=False)
+    ran = subprocess.run(
+        ["rt", "must-fail", name],
+        cwd=top,
+        stdout=subprocess.PIPE,
+        stderr=subprocess.STDOUT,
+        text=True,
+        errors="replace",
+        check=False,
+    )
+    said = ran.stdout.split("\n")
     for count, (plant, _, _) in enumerate(plants):
-        line = next((it for it in ran.stdout.split("\n") if f"{name}/{count:03}.edit: " in it), f"{count:03}.edit: NOT TRIED")
-        told = line.split(".edit: ")[1]
-        kind = {"refused, as it must be (only because": "bad", "refused": "refused", "BAD": "bad", "NOT REFUSED": "survivor"}
-        yield plant, next((to for word, to in kind.items() if told.startswith(word)), "not tried"), told
+        edit = f"{name}/{count:03}.edit: "
+        told = next((line.split(edit)[1] for line in said if edit in line), "NOT TRIED")
+        yield plant, next((to for word, to in KINDS if told.startswith(word)), "not tried"), told
     shutil.rmtree(folder)
 
 
@@ -196,11 +277,14 @@ def told_by_run(top, name, text):
     try:
         for old, new in pairs:
             file.write_text(file.read_text().replace(old, new, 1))
-        words = (crate / "args").read_text().split() if (crate / "args").exists() else []
-        subprocess.run(["rt", "run"], cwd=crate, stdin=subprocess.DEVNULL, stdout=subprocess.DEVNULL, stderr=subprocess.DEVNULL, check=False)
+        words = (crate / "args").read_text().split("\n") if (crate / "args").exists() else []
+        subprocess.run(
+            ["rt", "run"], cwd=crate, stdin=subprocess.DEVNULL, capture_output=True, check=False
+        )
         source = (crate / "stdin").read_bytes() if (crate / "stdin").exists() else b""
         data = crate / "data" if (crate / "data").exists() else crate
-        ran = subprocess.run([crate / "out" / name, *words], cwd=data, input=source, stdout=subprocess.PIPE, stderr=subprocess.DEVNULL, check=False)
+        command = [crate / "out" / name, *filter(None, words)]
+        ran = subprocess.run(command, cwd=data, input=source, capture_output=True, check=False)
         return ran.stdout != (crate / "stdout").read_bytes()
     finally:
         file.write_text(was)
@@ -229,7 +313,8 @@ def run(names):
                     print(f"{kind}: {name}/{plant}: {told[:120]}")
                 kinds.append(kind)
             alive += kinds.count("survivor")
-            print(f"{name}: {len(kinds)} edits, " + ", ".join(f"{kinds.count(kind)} {kind}" for kind in sorted(set(kinds))), flush=True)
+            counts = ", ".join(f"{kinds.count(kind)} {kind}" for kind in sorted(set(kinds)))
+            print(f"{name}: {len(kinds)} edits, {counts}", flush=True)
     return alive
 
 
@@ -239,8 +324,10 @@ if __name__ == "__main__":
         for each in given:
             make(each)
     elif command == "bare":
-        print("\n".join(line for each in given or sorted(it.name for it in (TOP / "crates").iterdir()) for line in bare(each)))
+        for each in given or sorted(it.name for it in (TOP / "crates").iterdir()):
+            print("".join(f"{line}\n" for line in bare(each)), end="")
     elif command == "run":
-        sys.exit(1 if run(given or sorted({it.stem for folder in (LISTS, MADE) for it in folder.glob("*.txt")})) else 0)
+        lists = sorted({it.stem for folder in (LISTS, MADE) for it in folder.glob("*.txt")})
+        sys.exit(1 if run(given or lists) else 0)
     else:
         sys.exit(__doc__)
