@@ -1,5 +1,6 @@
 .PHONY: help run try test check bench lib example install uninstall
 
+WARNINGS = -std=c99 -pedantic -Wall -Wextra -Werror
 PREFIX = /usr/local
 DESTDIR =
 
@@ -30,11 +31,11 @@ lib: ## proves and builds the library for clients in C, target/lib/libfinetalc.a
 	@tools/library
 
 example: lib ## builds the example clients, in C and in Python, and transcribes a line with each
-	@cc -std=c99 -pedantic -Wall -Wextra -Werror -O2 -Iinclude examples/transcribe.c target/lib/libfinetalc.a -o target/transcribe
+	@cc $(WARNINGS) -O2 -Iinclude examples/transcribe.c target/lib/libfinetalc.a -o target/transcribe
 	@echo "in C:" && printf 'caf\302\145 na\310\151ve\n' | target/transcribe 1 6
 	@echo "in Python:" && printf 'caf\302\145 na\310\151ve\n' | examples/transcribe.py 1 6
 
-install: target/bin/recode target/lib/libfinetalc.so ## puts programs, library and manual pages below PREFIX (/usr/local)
+install: target/bin/recode target/lib/libfinetalc.so ## puts all in place below PREFIX (/usr/local)
 	@tools/install "$(DESTDIR)" "$(PREFIX)"
 
 # What `make run` and `make lib` have built is installed as it stands.

@@ -1,7 +1,9 @@
 #!/usr/bin/env python3
-"""Runs the built programs on a table of cases, and fails where one says, writes or ends with something else.
+"""Runs the built programs on a table of cases, and fails where one says, writes or ends with
+something else.
 
-A case is a command line, what is read, what must be written, the first line that must be said on standard error, and the status.
+A case is a command line, what is read, what must be written, the first line that must be said on
+standard error, and the status.
 """
 import pathlib
 import re
@@ -12,15 +14,19 @@ import tempfile
 
 TOP = pathlib.Path(__file__).resolve().parent.parent
 BIN = TOP / "target/bin"
-VERSION = re.search(r'VERSION: &str = "(.*)"', (TOP / "crates/program/src/lib.rt").read_text()).group(1)
-NAMES = "picture iso6937 iso6937-7bit iso6937-7bit-parity iso8859-16 sami utf8 iso6937-basic".split()
+SHARED = (TOP / "crates/program/src/lib.rt").read_text()
+VERSION = re.search(r'VERSION: &str = "(.*)"', SHARED).group(1)
+NAMES = (
+    "picture iso6937 iso6937-7bit iso6937-7bit-parity iso8859-16 sami utf8 iso6937-basic".split()
+)
 
 
 def roll(*pages):
     """A roll by the format in docs/ROLLS.md: pages as pairs of form and bytes."""
     data, index = b"", b""
     for form, page in pages:
-        index += len(data).to_bytes(4, "big") + len(page).to_bytes(4, "big") + bytes([form, 0, 0, 0])
+        index += len(data).to_bytes(4, "big") + len(page).to_bytes(4, "big")
+        index += bytes([form, 0, 0, 0])
         data += page
     size = len(data).to_bytes(4, "big")
     return data + index + size + len(pages).to_bytes(4, "big") + size + b"ROLL"
@@ -31,7 +37,15 @@ BROKEN = b"Ren\xc2e \xc2b"
 TWO = roll((1, LETTER), (1, BROKEN))
 TEXT = "René\n1 1 4 ok\nRené \n2 1 5 6@6\n".encode()
 ACUTE = "C2 62: acute before a byte with which it makes no pair (refusal 6, cause 32, depth 1)"
-FILES = {"two": TWO, "first": LETTER, "second": BROKEN, "-dashed": LETTER, "-": LETTER, "long": bytes(65_509), "latin": b"caf\xe9\n"}
+FILES = {
+    "two": TWO,
+    "first": LETTER,
+    "second": BROKEN,
+    "-dashed": LETTER,
+    "-": LETTER,
+    "long": bytes(65_509),
+    "latin": b"caf\xe9\n",
+}
 ENTRY = bytearray(TWO)
 ENTRY[len(LETTER + BROKEN) + 12] = 1
 
@@ -86,7 +100,14 @@ CASES = [
 
 def ran(folder, line, given, stdout=subprocess.PIPE):
     program, *words = shlex.split(line)
-    done = subprocess.run([BIN / program, *words], cwd=folder, input=given, stdout=stdout, stderr=subprocess.PIPE, check=False)
+    done = subprocess.run(
+        [BIN / program, *words],
+        cwd=folder,
+        input=given,
+        stdout=stdout,
+        stderr=subprocess.PIPE,
+        check=False,
+    )
     return done.stdout, done.stderr.decode().partition("\n")[0], done.returncode
 
 
@@ -102,7 +123,8 @@ def failures(folder):
                 yield f"{program} --help does not list {name}"
     with open("/dev/full", "wb") as full:
         answer = ran(folder, "finetalc two", b"", full)[1:]
-    if answer != ("finetalc: cannot write standard output: No space left on device (os error 28)", 1):
+    said = "finetalc: cannot write standard output: No space left on device (os error 28)"
+    if answer != (said, 1):
         yield f"finetalc two > /dev/full: {answer}"
 
 

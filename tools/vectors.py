@@ -1,14 +1,17 @@
 #!/usr/bin/env python3
-"""Makes the vectors of `conformance` with the system's converter, glibc's iconv(3), which shares no code with ours.
+"""Makes the vectors of `conformance` with the system's converter, glibc's iconv(3), which shares no
+code with ours.
 
-    tools/vectors.py            write crates/conformance/stdin, and tools/vectors.version: which converter gave it
-    tools/vectors.py --check    fail if that file is not what the same converter gives; where this system has another
-                                version, or none, say so and go on
+    tools/vectors.py            writes crates/conformance/stdin, and which converter gave it into
+                                tools/vectors.version
+    tools/vectors.py --check    fails if that file is not what the same converter gives; where this
+                                system has another version, or none, says so and goes on
 
-A vector is a line of five words. `read 6937 C241 C241 C1/2`: every string from C2 41 to C2 41 (only the last byte runs)
-begins with U+00C1, coded in 2 bytes; in place of the last word `open` says that the string is incomplete, and `refused` that
-it is invalid. `write 6937 C1 C1 C241`: every character from U+00C1 to U+00C1 is written so; `none` says that it has no
-coding, and `-` that the converter writes nothing and calls that success.
+A vector is a line of five words. `read 6937 C241 C241 C1/2`: every string from C2 41 to C2 41 (only
+the last byte runs) begins with U+00C1, coded in 2 bytes; in place of the last word `open` says that
+the string is incomplete, and `refused` that it is invalid. `write 6937 C1 C1 C241`: every character
+from U+00C1 to U+00C1 is written so; `none` says that it has no coding, and `-` that the converter
+writes nothing and calls that success.
 """
 import ctypes
 import errno
@@ -48,20 +51,20 @@ class Converter:
         self.handle = self.libc.iconv_open(target.encode(), source.encode())
         if self.handle == POINTER(-1).value:
             raise NoConverter(
-                "tools/vectors.py: this system's iconv cannot convert %s to %s. The converters come with glibc: on Debian in the package "
-                "libc6, on Fedora in glibc-gconv-extra." % (source, target)
+                f"tools/vectors.py: this system's iconv cannot convert {source} to {target}. The "
+                "converters come with glibc: on Debian in the package libc6, on Fedora in "
+                "glibc-gconv-extra."
             )
         self.output = ctypes.create_string_buffer(16)
 
     def first(self, data, room):
-        """How many bytes were read, what was written, and the error, with room for one character."""
+        """How many bytes were read, what was written, and the error; one character has room."""
         self.libc.iconv(self.handle, None, None, None, None)
         given = ctypes.create_string_buffer(data, len(data) + 1)
         source, left = POINTER(ctypes.addressof(given)), SIZE(len(data))
         target, free = POINTER(ctypes.addressof(self.output)), SIZE(room)
-        result = self.libc.iconv(
-            self.handle, ctypes.addressof(source), ctypes.addressof(left), ctypes.addressof(target), ctypes.addressof(free)
-        )
+        places = [ctypes.addressof(it) for it in (source, left, target, free)]
+        result = self.libc.iconv(self.handle, *places)
         failed = ctypes.get_errno() if result == FAILED else 0
         return len(data) - left.value, self.output.raw[: room - free.value], failed
 
@@ -93,7 +96,8 @@ def runs(answers):
 
 
 def reads(name, length, strings):
-    """The vectors of strings of one length, given as numbers. A run ends where the last byte does."""
+    """The vectors of strings of one length, given as numbers. A run ends where the last byte
+    does."""
     converter = Converter("UTF-32BE", SETS[name])
     answers = [(number, read(converter, number.to_bytes(length, "big"))) for number in strings]
     for low in sorted({number >> 8 for number, _ in answers}):
@@ -109,19 +113,26 @@ def writes(name, numbers):
 
 def edges():
     """The first and the last character of each length and of each row of 256."""
-    return sorted({0x7F, 0x80, 0x7FF, 0x800} | {256 * row + cell for row in range(0x1100) for cell in (0, 255)})
+    rows = {256 * row + cell for row in range(0x1100) for cell in (0, 255)}
+    return sorted({0x7F, 0x80, 0x7FF, 0x800} | rows)
 
 
 def malformed():
     """Strings of up to four bytes at and beyond the bounds of each octet, by length."""
-    leads = bytes.fromhex("7F 80 BF C0 C1 C2 DF E0 E1 EC ED EE EF F0 F1 F3 F4 F5 F7 F8 FB FC FD FE FF")
+    leads = bytes.fromhex(
+        "7F 80 BF C0 C1 C2 DF E0 E1 EC ED EE EF F0 F1 F3 F4 F5 F7 F8 FB FC FD FE FF"
+    )
     seconds = bytes.fromhex("00 41 7F 80 8F 90 9F A0 BF C0 C2 FF")
     others = bytes.fromhex("41 7F 80 BF C0 FF")
     strings = {1: {(a,) for a in range(256)}}
     strings[2] = {(a, b) for a in leads for b in seconds}
     strings[3] = {(a, b, c) for a in leads for b in seconds for c in others}
-    strings[4] = {(a, b, c, d) for a in leads if a >= 0xE0 for b in seconds for c in others[1:5] for d in others}
-    return {length: sorted(int.from_bytes(bytes(s), "big") for s in given) for length, given in strings.items()}
+    long = [a for a in leads if a >= 0xE0]
+    strings[4] = {(a, b, c, d) for a in long for b in seconds for c in others[1:5] for d in others}
+    return {
+        length: sorted(int.from_bytes(bytes(s), "big") for s in given)
+        for length, given in strings.items()
+    }
 
 
 def coded(number):
@@ -152,7 +163,10 @@ def main():
     except (NoConverter, SystemExit) as told:
         if not other:
             sys.exit(str(told))
-        print("%s\ntools/vectors.py: the vectors are those of %s, and this system has %s; they stay as they are" % (told, stored_for, here))
+        print(
+            f"{told}\ntools/vectors.py: the vectors are those of {stored_for}, and this system has "
+            f"{here}; they stay as they are"
+        )
         return
     if not sys.argv[1:]:
         VERSION.write_text(here + "\n")
