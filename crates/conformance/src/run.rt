@@ -37,10 +37,17 @@ impl<'a> Stretch<'a> {
             to: number,
             ours: vector.ask(number),
         };
-        if !run.agrees() && run.known().is_none() {
+        if !run.is_accounted() {
             bail!("{run}");
         }
         Ok(run)
+    }
+
+    // Whether our answer agrees with theirs, or differs from it in a known way.
+    fn is_accounted(&self) -> bool
+        ensures { result ≡ true → Accounted self.now.vector.now self.now.from self.now.ours }
+    {
+        self.known().is_some() || self.ours.agrees(self.vector.answer)
     }
 
     // The run with the next one behind it, if our answer to both is the same.
