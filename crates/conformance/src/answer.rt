@@ -1,4 +1,4 @@
-// What a set answers to a question, and whether two answers agree.
+//! What a set answers to a question, and whether two answers agree.
 ghost use Rattle.std.specs.Prelude.{◌≡◌, true};
 ghost use Rattle.conformance.specs.Agreement.{told_reading, told_coding};
 ghost use Rattle.conformance.specs.Held.{Agree};
@@ -7,16 +7,18 @@ ghost use Rattle.conformance.specs.Numbers.{number_of};
 use charset::{Coding, Reading, SetRefusal};
 use std::fmt;
 
+/// What is answered to a question.
 #[derive(Clone, Copy, PartialEq, Eq)]
 pub enum Reply {
-    // A character's coding of so many bytes stands in front.
+    /// A character's coding of so many bytes stands in front.
     Character(u32, usize),
+    /// The whole string is an opening.
     Open,
-    // By its cause. The other converter gives none, which is 0 and no `None`: so the stored output
-    // prints it.
+    /// By its cause; 0 stands for that of the other converter, which gives none.
     Refused(u8),
-    // The bytes of a coding as a number, and how many they are.
+    /// The bytes of a coding as a number, and how many they are.
     Bytes(u32, usize),
+    /// The character has no coding.
     NoCoding,
 }
 
@@ -57,7 +59,8 @@ fn number_of(bytes: &[u8]) -> u32
 }
 
 impl Reply {
-    // Two answers agree if they are the same, or both refusals: the other converter gives no cause.
+    /// Two answers agree if they are the same, or both refusals: the other converter gives no
+    /// cause.
     pub fn agrees(self, other: Reply) -> bool
         ensures only_if_they_agree { result ≡ true → Agree self other }
         ensures whenever_they_agree { Agree self other → result ≡ true }

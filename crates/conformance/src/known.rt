@@ -1,5 +1,5 @@
-// The differences that are known and wanted: docs/CHARACTER-SETS.md says why each is right on our
-// side.
+//! The differences that are known and wanted: docs/CHARACTER-SETS.md says why each is right on our
+//! side.
 ghost use Rattle.std.specs.Prelude.{◌≡◌};
 ghost use Rattle.conformance.specs.Differences.{control_position, front_of, ApartIn6937, Beyond};
 ghost use Rattle.conformance.specs.Differences.{WaitsAt};
@@ -8,21 +8,22 @@ use crate::answer::Reply;
 use crate::vector::Set;
 use std::fmt;
 
+/// In what the other converter differs.
 #[derive(Clone, Copy)]
 pub enum Known {
-    // It takes control characters for a part of the set.
+    /// It takes control characters for a part of the set.
     Control,
-    // It has characters of its own in columns 8 and 9 of the Sami set.
+    /// It has characters of its own in columns 8 and 9 of the Sami set.
     Window,
-    // It reads 13/00 HORIZONTAL BAR as an em dash.
+    /// It reads 13/00 HORIZONTAL BAR as an em dash.
     Bar,
-    // It reads 14/02 LATIN CAPITAL LETTER D WITH STROKE as capital eth.
+    /// It reads 14/02 LATIN CAPITAL LETTER D WITH STROKE as capital eth.
     Stroke,
-    // It has small g with cedilla at the cedilla and not at the acute.
+    /// It has small g with cedilla at the cedilla and not at the acute.
     SmallG,
-    // It waits for more where no coding can come about any more.
+    /// It waits for more where no coding can come about any more.
     Waits,
-    // It drops tag characters without a word.
+    /// It drops tag characters without a word.
     Tags,
 }
 

@@ -1,7 +1,7 @@
-// Holds the character sets against vectors that another converter made: counts what agrees, prints
-// every difference of a known kind, and ends with an error at one of no known kind. The vectors in
-// `stdin` are from outside: `tools/vectors.py` makes them with the system's converter. `stdout` is
-// this program's own output, and of it only the converter's answers are from outside.
+//! Holds the character sets against vectors that another converter made: counts what agrees, prints
+//! every difference of a known kind, and ends with an error at one of no known kind. The vectors in
+//! `stdin` are from outside: `tools/vectors.py` makes them with the system's converter. `stdout` is
+//! this program's own output, and of it only the converter's answers are from outside.
 #![tactic(auto)]
 
 ghost use Rattle.std.specs.Prelude.{OnOk};

@@ -1,4 +1,4 @@
-// A run of a vector's questions to which our answer is the same.
+//! A run of a vector's questions to which our answer is the same.
 ghost use Rattle.std.specs.Prelude.{◌≡◌, ◌≢◌, ◌+◌, ◌-◌, ◌≤◌};
 ghost use Rattle.std.specs.Prelude.{true, IfOk, MatchOption};
 ghost use Rattle.conformance.specs.Agreement.{Tells};
@@ -12,6 +12,7 @@ use crate::vector::{Question, Set, Vector};
 use anyhow::bail;
 use std::fmt;
 
+/// Some numbers of a vector, and our answer to all of them.
 #[derive(Clone, Copy)]
 pub struct Stretch<'a> {
     vector: &'a Vector,

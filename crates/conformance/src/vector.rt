@@ -1,4 +1,4 @@
-// A vector: a question about a run of strings or numbers, and the other converter's answer.
+//! A vector: a question about a run of strings or numbers, and the other converter's answer.
 ghost use Rattle.charset.specs.Sets.{set_of};
 ghost use Rattle.std.specs.Prelude.{◌≡◌};
 ghost use Rattle.conformance.specs.Agreement.{TellsReading, Tells, answer_to};
@@ -13,15 +13,20 @@ use std::fmt;
 use std::num::ParseIntError;
 use std::str::FromStr;
 
+/// A set that vectors ask.
 #[derive(Clone, Copy)]
 pub enum Set {
+    /// ISO/IEC 6937.
     Iso6937,
+    /// ISO/IEC 8859-16.
     Iso8859v16,
+    /// The Sami set, ISO-IR 209.
     Sami,
+    /// UTF-8.
     Utf8,
 }
 
-// By the name that vectors use.
+/// By the name that vectors use.
 impl fmt::Display for Set {
     ghost use Rattle.std.specs.Prelude.{Some};
     ghost use Rattle.conformance.specs.Names.{name_of};
@@ -56,24 +61,34 @@ impl FromStr for Set {
     }
 }
 
-// What is asked of each number of a run.
+/// What is asked of each number of a run.
 #[derive(Clone, Copy)]
 pub enum Question {
-    // What is read in the string of so many hexadecimal digits.
-    Read { width: usize },
-    // How the character is written.
+    /// What is read in the string of so many hexadecimal digits.
+    Read {
+        /// How many digits.
+        width: usize,
+    },
+    /// How the character is written.
     Write,
 }
 
+/// The answer of the other converter to a question of each number of a run.
 #[derive(Clone, Copy)]
 pub struct Vector {
+    /// The set that is asked.
     pub set: Set,
+    /// What it is asked.
     pub question: Question,
+    /// The first number of the run.
     pub from: u32,
+    /// The last one.
     pub to: u32,
+    /// The answer, the same to all.
     pub answer: Reply,
 }
 
+/// A line is no vector.
 #[derive(Clone, Copy, Debug, PartialEq, Eq)]
 pub struct NotAVector;
 

@@ -26,6 +26,7 @@ pub enum Ending {
     Usage(String),
     /// What was refused, or could not be read or written.
     Failed(String),
+    /// Memory was wanting.
     NoMemory,
 }
 

@@ -29,6 +29,7 @@ pub fn refused_bytes(form: Form, bytes: &[u8]) -> &[u8]
 /// 1)`.
 #[derive(Clone, Copy)]
 pub struct FaultWords<'a> {
+    /// The fault and its place.
     pub at: FaultAt,
     /// The bytes at the fault that tell it.
     pub bytes: &'a [u8],

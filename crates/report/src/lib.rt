@@ -1,4 +1,4 @@
-// What is written of a roll.
+//! What is written of a roll.
 #![tactic(auto)]
 
 ghost use Rattle.std.specs.Prelude.{◌≡◌, IfOk, string_bytes};
@@ -20,10 +20,11 @@ use std::alloc::{AllocError, Global};
 pub use text::{PageText, form_text, page_text};
 use transcript::Told;
 
-// How many bytes a roll may have that `report` reads.
+/// How many bytes a roll may have that [`report`] reads; a longer one is refused by 14.
 pub const LONGEST_INPUT: usize = 65_536;
 
-// How a page went: its number, form and characters, then `ok`, or the refusal, `@` and the offset.
+/// How a page went: its number, form and characters, then `ok`, or the refusal, `@` and the
+/// offset. Fails only where memory is wanting.
 pub fn line(heap: Global, number: u32, page: &PageText) -> Result<String, AllocError>
     ensures { IfOk result (λ s. string_bytes s ≡ line_told number page.now) }
 {
@@ -43,8 +44,8 @@ pub fn line(heap: Global, number: u32, page: &PageText) -> Result<String, AllocE
     }
 }
 
-// The text of a page and its line, each with a line feed behind. The number is a parameter: a page
-// knows none.
+/// The text of a page and its line, each with a line feed behind. `number` is the page's, from 1.
+/// Fails only where memory is wanting.
 pub fn block(heap: Global, number: u32, page: &Page) -> Result<Vec<u8>, AllocError>
     ensures { IfOk result (λ out. PageBlock number page.now out.items) }
 {
@@ -87,7 +88,8 @@ fn opened(input: &[u8]) -> Result<Roll<'_>, RollFault>
     Ok(Roll::open(input)?)
 }
 
-// What is written of an input.
+/// All that is written of an input: the blocks of the pages in order, or the number of a refused
+/// roll. Fails only where memory is wanting.
 pub fn report(heap: Global, input: &[u8]) -> Result<Vec<u8>, AllocError>
     ensures reports { IfOk result (λ out. Reports input.now out.items) }
     ensures one_report { OneReport input.now }
