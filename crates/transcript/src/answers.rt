@@ -36,7 +36,7 @@ pub struct FaultAt {
     pub done: Done,
 }
 
-// The fault at that place.
+/// The fault at that place.
 impl From<(Fault, Place)> for FaultAt {
     ghost from_gives = { λ e r. r ≡ placed e.0 e.1 };
 

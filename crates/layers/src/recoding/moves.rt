@@ -12,6 +12,8 @@ pub enum Move {
 /// How a byte below is written: as one byte, or as two in this order.
 #[derive(Clone, Copy, PartialEq, Eq, Debug)]
 pub enum WrittenByte {
+    /// As itself or another byte.
     One(u8),
+    /// As these two.
     Two(u8, u8),
 }
