@@ -7,10 +7,9 @@ use Rattle.conversion.specs.declared.Fault.TheVariants.{Unread, Unwritten, Unfin
 use Rattle.roll.specs.declared.page.Form.{Form}
 use Rattle.roll.specs.declared.page.Page.{Page}
 use Rattle.roll.specs.declared.page.Page.TheVariants.{Text, Picture}
-use Rattle.roll.specs.declared.refusal.RollRefusal.{RollRefusal}
+use Rattle.roll.specs.declared.refusal.RefusalTold.{RefusalTold}
 use Rattle.roll.specs.Format.{page_count}
 use Rattle.roll.specs.Pages.{PartAt}
-use Rattle.roll.specs.Told.{refusal_told}
 use Rattle.roll.proofs.FormNumbers.{same_form, form_not_0}
 use Rattle.roll.proofs.OneAnswer.{one_answer}
 use Rattle.transcript.specs.declared.answers.Done.{Done}
@@ -105,21 +104,21 @@ pages_once b (suc k) out out' h i =
     page_once b k (k + 1) h.3.0 i.3.0 h.1 i.1 h.3.1 i.3.1 h.3.2 i.3.2 in
     rw (h.4, i.4, front, block) refl
 
-refused_once : (b : List ℕ) (e f : RollRefusal) → InputRefused b e → InputRefused b f
-    → e ≡ f
-refused_once b e f (inl h) (inl i) = h.1 ∙ sym i.1
-refused_once b e f (inl h) (inr i) = absurd (omega arith)
-refused_once b e f (inr h) (inl i) = absurd (omega arith)
-refused_once b e f (inr h) (inr i) = (one_answer b).one_refusal e f h.1 i.1
+refused_once : (b : List ℕ) (t u : RefusalTold) → InputRefused b t → InputRefused b u
+    → t ≡ u
+refused_once b t u (inl h) (inl i) = h.1 ∙ sym i.1
+refused_once b t u (inl h) (inr i) = absurd (omega arith)
+refused_once b t u (inr h) (inl i) = absurd (omega arith)
+refused_once b t u (inr h) (inr i) = (one_answer b).one_refusal t u h.1 i.1
 
 pub one_report : (b : List ℕ) → OneReport b
 one_report b out out' (inl h) (inl i) =
-    h.2 ∙ ap (λ e. number_line (refusal_told e).number) (refused_once b h.0 i.0 h.1 i.1)
+    h.2 ∙ ap (λ t. number_line t.number) (refused_once b h.0 i.0 h.1 i.1)
     ∙ sym i.2
-one_report b out out' (inl (e, inl h, w)) (inr i) = absurd (omega arith)
-one_report b out out' (inl (e, inr h, w)) (inr i) =
-    absurd ((one_answer b).not_both e h.1 i.1)
-one_report b out out' (inr h) (inl (e, inl i, w)) = absurd (omega arith)
-one_report b out out' (inr h) (inl (e, inr i, w)) =
-    absurd ((one_answer b).not_both e i.1 h.1)
+one_report b out out' (inl (t, inl h, w)) (inr i) = absurd (omega arith)
+one_report b out out' (inl (t, inr h, w)) (inr i) =
+    absurd ((one_answer b).not_both t h.1 i.1)
+one_report b out out' (inr h) (inl (t, inl i, w)) = absurd (omega arith)
+one_report b out out' (inr h) (inl (t, inr i, w)) =
+    absurd ((one_answer b).not_both t i.1 h.1)
 one_report b out out' (inr h) (inr i) = pages_once b (page_count b) out out' h.2 i.2

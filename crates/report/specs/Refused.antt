@@ -4,6 +4,7 @@ use Rattle.std.specs.Prelude.{◌∷◌, length, take, Ok, Err, Result, true, fa
 use Rattle.charset.specs.Meaning.{Meaning}
 use Rattle.roll.specs.declared.refusal.RollRefusal.{RollRefusal}
 use Rattle.roll.specs.declared.page.Page.{Page}
+use Rattle.roll.specs.Told.{refusal_told}
 use Rattle.roll.specs.Format.{page_count}
 use Rattle.roll.specs.Opened.{Accepted}
 use Rattle.roll.specs.Pages.{PartAt}
@@ -38,5 +39,5 @@ AllPagesJudged b faults = InOrder (PageJudged b) (page_count b) faults
 -- of a refused input its refusal, and of any other the faults of its pages
 abbrev pub RefusedPages : List ℕ → List RollFault → Type 0
 RefusedPages b faults =
-    ((e : RollRefusal) × InputRefused b e × (faults ≡ Refused e ∷ []))
+    ((e : RollRefusal) × InputRefused b (refusal_told e) × (faults ≡ Refused e ∷ []))
     ⊎ ((length b ≤ LONGEST_INPUT) × Accepted b × AllPagesJudged b faults)

@@ -3,6 +3,7 @@ use Rattle.std.specs.Prelude.{◌≡◌, ℕ, ◌+◌, ◌<◌, ◌≤◌, ◌�
 use Rattle.std.specs.Prelude.{◌∷◌, ◌++◌, length, Ok, Err, decimal, Result}
 use Rattle.roll.specs.declared.refusal.RollRefusal.{RollRefusal}
 use Rattle.roll.specs.declared.refusal.RollRefusal.TheVariants.{WrongSize}
+use Rattle.roll.specs.declared.refusal.RefusalTold.{RefusalTold}
 use Rattle.report.specs.declared.fault.RollFault.{RollFault}
 use Rattle.report.specs.declared.fault.RollFault.TheVariants.{Refused}
 use Rattle.roll.specs.declared.page.Page.{Page}
@@ -41,19 +42,19 @@ abbrev pub number_line : ℕ → List ℕ
 number_line n = decimal n ++ (0x0a ∷ [])
 
 -- an input over 65,536 bytes is refused by 14, and any other as a roll is
-abbrev pub InputRefused : List ℕ → RollRefusal → Type 0
-InputRefused b e =
-    ((LONGEST_INPUT < length b) × (e ≡ WrongSize))
-    ⊎ ((length b ≤ LONGEST_INPUT) × Refuses b e)
+abbrev pub InputRefused : List ℕ → RefusalTold → Type 0
+InputRefused b t =
+    ((LONGEST_INPUT < length b) × (t ≡ refusal_told WrongSize))
+    ⊎ ((length b ≤ LONGEST_INPUT) × Refuses b t)
 
 abbrev pub OpensInput : List ℕ → Result Roll RollFault → Type 0
 OpensInput b (Ok roll) = (length b ≤ LONGEST_INPUT) × (bytes_of roll ≡ b)
-OpensInput b (Err f) = (e : RollRefusal) × (f ≡ Refused e) × InputRefused b e
+OpensInput b (Err f) = (e : RollRefusal) × (f ≡ Refused e) × InputRefused b (refusal_told e)
 
 -- a refused input is answered by its number, and any other by its pages
 abbrev pub Reports : List ℕ → List ℕ → Type 0
 Reports b out =
-    ((e : RollRefusal) × InputRefused b e × (out ≡ number_line (refusal_told e).number))
+    ((t : RefusalTold) × InputRefused b t × (out ≡ number_line t.number))
     ⊎ ((length b ≤ LONGEST_INPUT) × Accepted b × AllPagesWritten b out)
 
 -- no input has two reports

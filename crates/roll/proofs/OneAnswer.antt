@@ -2,9 +2,10 @@
 use Rattle.std.proofs.Common.{◌≡◌, ℕ, zero, suc, List, refl, ap, arith}
 use Rattle.std.proofs.Common.{inl, inr}
 use Rattle.std.proofs.lemmas.Bool.{cases_order}
-use Rattle.roll.specs.declared.refusal.RollRefusal.{RollRefusal}
+use Rattle.roll.specs.declared.refusal.RefusalTold.{RefusalTold}
 use Rattle.roll.specs.declared.refusal.RollRefusal.TheVariants.{BadEntry}
 use Rattle.roll.specs.Format.{NoPagesNoBytes, EntriesHold}
+use Rattle.roll.specs.Told.{refusal_told}
 use Rattle.roll.specs.Opened.{FirstBad, Refuses, Accepted, OneAnswer}
 use Rattle.roll.specs.Opened.Refuses.{wrong_size, no_mark, wrong_index, bad_entry, wrong_total}
 
@@ -25,7 +26,7 @@ module _ (b : List ℕ) where
         | inr (inr more) ↦ absurd (cc (i.2, h.1 n more))
       ]
 
-  one_refusal : (e f : RollRefusal) → Refuses b e → Refuses b f → e ≡ f
+  one_refusal : (t u : RefusalTold) → Refuses b t → Refuses b u → t ≡ u
   one_refusal _ _ (wrong_size _) (wrong_size _) = refl
   one_refusal _ _ (wrong_size broken) (no_mark held _) = absurd (broken held)
   one_refusal _ _ (wrong_size broken) (wrong_index held _ _) = absurd (broken held)
@@ -44,7 +45,8 @@ module _ (b : List ℕ) where
   one_refusal _ _ (bad_entry _ held _ _ _) (wrong_size broken) = absurd (broken held)
   one_refusal _ _ (bad_entry _ _ held _ _) (no_mark _ broken) = absurd (broken held)
   one_refusal _ _ (bad_entry _ _ _ held _) (wrong_index _ _ broken) = absurd (broken held)
-  one_refusal _ _ (bad_entry k _ _ _ h) (bad_entry n _ _ _ i) = ap BadEntry (first_bad_one k n h i)
+  one_refusal _ _ (bad_entry k _ _ _ h) (bad_entry n _ _ _ i) =
+      ap (λ m. refusal_told (BadEntry m)) (first_bad_one k n h i)
   one_refusal _ _ (bad_entry k _ _ _ h) (wrong_total _ _ _ none all _) =
       absurd (bad_here k h none all)
   one_refusal _ _ (wrong_total held _ _ _ _ _) (wrong_size broken) = absurd (broken held)
@@ -54,7 +56,7 @@ module _ (b : List ℕ) where
       absurd (bad_here k h none all)
   one_refusal _ _ (wrong_total _ _ _ _ _ _) (wrong_total _ _ _ _ _ _) = refl
 
-  not_both : (e : RollRefusal) → Refuses b e → ¬ Accepted b
+  not_both : (t : RefusalTold) → Refuses b t → ¬ Accepted b
   not_both _ (wrong_size n) a = n a.sized
   not_both _ (no_mark s n) a = n a.marked
   not_both _ (wrong_index s m n) a = n a.indexed

@@ -4,6 +4,8 @@ use Rattle.std.specs.Prelude.{Result, ◌≢◌}
 use Rattle.roll.specs.declared.refusal.RollRefusal.{RollRefusal}
 use Rattle.roll.specs.declared.refusal.RollRefusal.TheVariants.{WrongSize, NoMark, WrongIndex}
 use Rattle.roll.specs.declared.refusal.RollRefusal.TheVariants.{BadEntry, WrongTotal}
+use Rattle.roll.specs.declared.refusal.RefusalTold.{RefusalTold}
+use Rattle.roll.specs.Told.{refusal_told}
 use Rattle.roll.specs.Format.{index_offset, page_count, entry_holds, sizes, Sized, Marked, Indexed}
 use Rattle.roll.specs.Format.{NoPagesNoBytes, EntriesHold, Totalled, joined}
 
@@ -20,15 +22,19 @@ abbrev pub Checked : List ℕ → Result ℕ RollRefusal → Type 0
 Checked b (Ok sum) = NoPagesNoBytes b × EntriesHold b × (sum ≡ sizes b (page_count b))
 Checked b (Err e) = (n : ℕ) × (e ≡ BadEntry n) × FirstBad b n
 
--- each refusal comes exactly when its rule is broken and none before it
-pub data Refuses (b : List ℕ) : RollRefusal → Type 0 where
-  wrong_size : ¬ Sized b → Refuses b WrongSize
-  no_mark : Sized b → ¬ Marked b → Refuses b NoMark
-  wrong_index : Sized b → Marked b → ¬ Indexed b → Refuses b WrongIndex
+-- what is told of each refusal comes exactly when its rule is broken and none before it
+pub data Refuses (b : List ℕ) : RefusalTold → Type 0 where
+  wrong_size : ¬ Sized b → Refuses b (refusal_told WrongSize)
+  no_mark : Sized b → ¬ Marked b → Refuses b (refusal_told NoMark)
+  wrong_index : Sized b → Marked b → ¬ Indexed b → Refuses b (refusal_told WrongIndex)
   bad_entry : (n : ℕ) → Sized b → Marked b → Indexed b → FirstBad b n
-      → Refuses b (BadEntry n)
+      → Refuses b (refusal_told (BadEntry n))
   wrong_total : Sized b → Marked b → Indexed b → NoPagesNoBytes b → EntriesHold b
-      → ¬ Totalled b → Refuses b WrongTotal
+      → ¬ Totalled b → Refuses b (refusal_told WrongTotal)
+
+-- a refusal, by what is told of it
+abbrev pub RefusedAs : List ℕ → RollRefusal → Type 0
+RefusedAs b e = Refuses b (refusal_told e)
 
 -- a roll that keeps every rule; its pages, joined, are all that comes before the index
 pub record Accepted (b : List ℕ) : Type 0 where
@@ -42,5 +48,5 @@ pub record Accepted (b : List ℕ) : Type 0 where
 
 -- no bytes are refused in two ways, nor refused and accepted
 pub record OneAnswer (b : List ℕ) : Type 0 where
-  pub one_refusal : (e f : RollRefusal) → Refuses b e → Refuses b f → e ≡ f
-  pub not_both : (e : RollRefusal) → Refuses b e → ¬ Accepted b
+  pub one_refusal : (t u : RefusalTold) → Refuses b t → Refuses b u → t ≡ u
+  pub not_both : (t : RefusalTold) → Refuses b t → ¬ Accepted b

@@ -5,6 +5,7 @@ use Rattle.roll.specs.declared.refusal.RollRefusal.{RollRefusal}
 use Rattle.roll.specs.declared.refusal.RollRefusal.TheVariants.{NoSuchPage}
 use Rattle.roll.specs.declared.page.Page.{Page}
 use Rattle.roll.specs.declared.page.Page.TheVariants.{Text, Picture}
+use Rattle.roll.specs.Told.{refusal_told}
 use Rattle.roll.specs.Forms.{form_number}
 use Rattle.roll.specs.Format.{page_count, offset, form, page_bytes}
 
@@ -18,4 +19,5 @@ PartAt b k (Picture part at) =
 -- pages count from 1
 abbrev pub PageAt : List ℕ → ℕ → Result Page RollRefusal → Type 0
 PageAt b n (Ok p) = (0 < n) × (n ≤ page_count b) × PartAt b (n - 1) p
-PageAt b n (Err e) = (e ≡ NoSuchPage) × ((n ≡ 0) ⊎ (page_count b < n))
+PageAt b n (Err e) =
+    (refusal_told e ≡ refusal_told NoSuchPage) × ((n ≡ 0) ⊎ (page_count b < n))

@@ -1,7 +1,7 @@
 //! A roll, opened.
 ghost use Rattle.std.specs.Prelude.{◌≡◌, IfOk, IfErr};
 ghost use Rattle.roll.specs.Format.{page_count};
-ghost use Rattle.roll.specs.Opened.{Accepted, Refuses, OneAnswer};
+ghost use Rattle.roll.specs.Opened.{Accepted, RefusedAs, OneAnswer};
 ghost use Rattle.std.proofs.Props.{props};
 
 use crate::each_page::Pages;
@@ -30,7 +30,7 @@ impl<'a> Roll<'a> {
     #[tactic(auto, using(crate::proofs::OneAnswer::one_answer))]
     pub fn open(bytes: &'a [u8]) -> Result<Roll<'a>, RollRefusal>
         ensures opened { IfOk result (IsRoll bytes.now) }
-        ensures refused { IfErr result (Refuses bytes.now) }
+        ensures refused { IfErr result (RefusedAs bytes.now) }
         ensures one_answer { OneAnswer bytes.now }
     {
         let len = bytes.len();
