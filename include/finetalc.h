@@ -4,9 +4,9 @@
  * calls: a record needs no freeing, and may be copied or stored and gone on with later.
  *
  * Each call returns true where it succeeds. Where it returns false, answer->number says why, as
- * docs/REFUSALS.md of the sources lists it. A record is to be changed by the calls alone. One whose
- * numbers cannot be those of a transcript is refused with 102; any other is taken as its numbers
- * say, so not every change by something else is noticed.
+ * docs/REFUSALS.md of the sources, installed in share/doc/finetalc, lists it. A record is to be
+ * changed by the calls alone. One whose numbers cannot be those of a transcript is refused with
+ * 102; any other is taken as its numbers say, so not every change by something else is noticed.
  *
  * All pointers must be to valid memory, and none may be null, even where the length is 0. What one
  * call is given must not overlap. */
