@@ -4,7 +4,7 @@
  * calls: a record needs no freeing, and may be copied or stored and gone on with later.
  *
  * Each call returns true where it succeeds. Where it returns false, answer->number says why, as
- * docs/REFUSALS.md of the sources, installed in share/doc/finetalc, lists it. A record is to be
+ * docs/REFUSALS.md of the sources, installed below share/doc/finetalc, lists it. A record is to be
  * changed by the calls alone. One whose numbers cannot be those of a transcript is refused with
  * 102; any other is taken as its numbers say, so not every change by something else is noticed.
  *

@@ -121,11 +121,12 @@ def failures(folder):
         for number, name in list(enumerate(NAMES))[first:]:
             if f"\n  {number}  {name} " not in listed:
                 yield f"{program} --help does not list {name}"
-    with open("/dev/full", "wb") as full:
-        answer = ran(folder, "finetalc two", b"", full)[1:]
     said = "finetalc: cannot write standard output: No space left on device (os error 28)"
-    if answer != (said, 1):
-        yield f"finetalc two > /dev/full: {answer}"
+    for line in ("finetalc two", "finetalc --help"):
+        with open("/dev/full", "wb") as full:
+            answer = ran(folder, line, b"", full)[1:]
+        if answer != (said, 1):
+            yield f"{line} > /dev/full: {answer}"
 
 
 with tempfile.TemporaryDirectory(prefix="cli-") as room:

@@ -60,7 +60,7 @@ fn causes_in_words(rt: HostRuntime) -> Result<(), Fail> {
         Form::EightBit,
         b"\xCAb",
         "offset 0: CA 62: \
-        ring before a byte with which it makes no pair (refusal 6, cause 32, depth 1)",
+        ring above before a byte with which it makes no pair (refusal 6, cause 32, depth 1)",
     )?;
     says(
         &rt,

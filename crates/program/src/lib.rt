@@ -150,14 +150,19 @@ pub fn called<'a>(words: &'a [String], name: &'a str) -> &'a str {
 
 /// Says how a program ended, with its name in front, and answers its status.
 pub fn end(rt: &HostRuntime, name: &str, outcome: Result<(), Ending>) -> ExitCode {
+    let outcome = match outcome {
+        Err(Ending::Answered(text)) => write(rt, text.as_bytes()),
+        other => other,
+    };
     let Err(ending) = outcome else {
         return ExitCode::SUCCESS;
     };
     // Where standard error cannot be written, the status alone tells.
     let _ = match &ending {
-        Ending::Answered(text) => print!(rt; "{text}"),
-        Ending::Usage(text) | Ending::Failed(text) => eprintln!(rt; "{name}: {text}"),
         Ending::NoMemory => eprintln!(rt; "{name}: out of memory"),
+        Ending::Answered(text) | Ending::Usage(text) | Ending::Failed(text) => {
+            eprintln!(rt; "{name}: {text}")
+        }
     };
     ExitCode::from(ending.status())
 }

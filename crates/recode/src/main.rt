@@ -62,17 +62,16 @@ fn run(rt: &HostRuntime, words: &[String]) -> Result<(), Ending> {
     let sets = (FormSet::of(heap, source)?, FormSet::of(heap, target)?);
     let mut done = Transcription::empty(heap);
     let outcome = transcribe(sets.0, sets.1, &input, &mut done);
-    write(rt, &done.text)?;
-    let Err(failure) = outcome else {
-        return Ok(());
-    };
     let file = file_name(file);
-    let message = match failure {
-        Failure::Faulted(at) => {
+    let message = match outcome {
+        Ok(()) => return write(rt, &done.text),
+        Err(Failure::Faulted(at)) => {
+            write(rt, &done.text)?;
             let words = FaultWords::new(source, target, &input, at);
             format!(in heap; "{file}: {words}")?
         }
-        wanting => format!(in heap; "{file}: {wanting}")?,
+        // Of the text nothing is promised then, so none is written.
+        Err(wanting) => format!(in heap; "{file}: {wanting}")?,
     };
     Err(Ending::Failed(message))
 }

@@ -139,7 +139,7 @@ fn diacritic_name(bytes: &[u8]) -> &'static str {
         0x46 => "breve",
         0x47 => "dot above",
         0x48 => "diaeresis",
-        0x4A => "ring",
+        0x4A => "ring above",
         0x4B => "cedilla",
         0x4D => "double acute",
         0x4E => "ogonek",

@@ -14,7 +14,8 @@ use sets::Utf8;
 use std::alloc::{AllocError, Global};
 use transcript::{Failure, Transcription, transcribe};
 
-/// Transcribes bytes of a form into UTF-8, up to their end or to a fault; the text before is lost.
+/// Transcribes bytes of a form into UTF-8, up to their end or to a fault. What was transcribed
+/// replaces what `into` held.
 pub fn form_text(
     heap: Global,
     form: Form,
