@@ -116,9 +116,9 @@ def failures(folder):
         answer = ran(folder, line, given)
         if answer != tuple(expected):
             yield f"{line}: {answer} and not {tuple(expected)}"
-    for program, first in ("recode", 1), ("rollmake", 0):
+    for program in "recode", "rollmake":
         listed = ran(folder, f"{program} --help", b"")[0].decode()
-        for number, name in list(enumerate(NAMES))[first:]:
+        for number, name in list(enumerate(NAMES))[1:]:
             if f"\n  {number}  {name} " not in listed:
                 yield f"{program} --help does not list {name}"
     said = "finetalc: cannot write standard output: No space left on device (os error 28)"

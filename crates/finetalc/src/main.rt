@@ -2,7 +2,7 @@
 #![tactic(auto)]
 
 use clap::{Arg, ArgAction, Command};
-use program::{Ending, VERSION, arguments, called, end, read, words, write};
+use program::{Ending, VERSION, arguments, end, read, words, write};
 use report::{FaultWords, LONGEST_INPUT, RollFault, RollWords, refused_pages, report};
 use roll::{Form, Page, Roll};
 use std::alloc::{AllocError, Global};
@@ -39,12 +39,12 @@ fn command<'a>(heap: Global) -> Result<Command<'a>, AllocError> {
 }
 
 /// Says why a page, or the roll, is refused.
-fn explain(rt: &HostRuntime, name: &str, input: &[u8], fault: RollFault) {
+fn explain(rt: &HostRuntime, input: &[u8], fault: RollFault) {
     // Where standard error cannot be written, nothing is left to say it to.
     let _ = match fault {
         RollFault::Refused(refusal) => {
             let words = RollWords(refusal);
-            eprintln!(rt; "{name}: the roll: {words}")
+            eprintln!(rt; "{NAME}: the roll: {words}")
         }
         RollFault::Faulted { page, fault } => {
             let opened = Roll::open(input).and_then(|roll| roll.page(page as usize));
@@ -52,7 +52,7 @@ fn explain(rt: &HostRuntime, name: &str, input: &[u8], fault: RollFault) {
                 return;
             };
             let words = FaultWords::new(form, Form::Unicode, part, fault);
-            eprintln!(rt; "{name}: page {page}: {words}")
+            eprintln!(rt; "{NAME}: page {page}: {words}")
         }
     };
 }
@@ -86,7 +86,7 @@ fn run(rt: &HostRuntime, words: &[String]) -> Result<(), Ending> {
     let faults = refused_pages(heap, &input)?;
     if explains {
         for fault in &faults {
-            explain(rt, called(words, NAME), &input, *fault);
+            explain(rt, &input, *fault);
         }
     }
     if strict && !faults.is_empty() {
@@ -97,7 +97,7 @@ fn run(rt: &HostRuntime, words: &[String]) -> Result<(), Ending> {
 
 fn main(rt: HostRuntime) -> ExitCode {
     match words(&rt) {
-        Ok(words) => end(&rt, called(&words, NAME), run(&rt, &words)),
+        Ok(words) => end(&rt, NAME, run(&rt, &words)),
         Err(ending) => end(&rt, NAME, Err(ending)),
     }
 }

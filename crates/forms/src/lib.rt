@@ -14,7 +14,7 @@ use layers::{
     CharacterList, Controls, Parity, Shift, Subrepertoire, with_controls, with_list, with_parity,
     with_shift,
 };
-pub use names::{form_name, form_of_word, listed_forms};
+pub use names::{LISTED_FORMS, form_name, form_of_word};
 use roll::Form;
 use sets::{Iso6937, SingleByte, Utf8};
 use std::alloc::{AllocError, Global};

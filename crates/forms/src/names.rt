@@ -3,30 +3,29 @@ ghost use Rattle.std.specs.Prelude.{◌≡◌};
 ghost use Rattle.forms.specs.Names.{form_of_word, name_of};
 
 use roll::Form;
-use std::alloc::{AllocError, Global};
-use std::fmt::Write;
 
-/// A form of page by its name, and what such a page is.
-#[derive(Clone, Copy)]
-pub struct NamedForm {
-    /// The word that gives the form, as its number does.
-    pub name: &'static str,
-    /// What a page of the form is, in a few words.
-    pub page: &'static str,
-}
-
-/// The forms of page, from 0 on.
-#[rattlefmt::skip]
-pub const NAMED_FORMS: [NamedForm; 8] = [
-    NamedForm { name: "picture", page: "a picture, which has no text" },
-    NamedForm { name: "iso6937", page: "ISO/IEC 6937 in eight bits" },
-    NamedForm { name: "iso6937-7bit", page: "ISO/IEC 6937 in seven bits" },
-    NamedForm { name: "iso6937-7bit-parity", page: "ISO/IEC 6937 in seven bits, with even parity" },
-    NamedForm { name: "iso8859-16", page: "ISO/IEC 8859-16" },
-    NamedForm { name: "sami", page: "the Sami set, ISO-IR 209" },
-    NamedForm { name: "utf8", page: "UTF-8" },
-    NamedForm { name: "iso6937-basic", page: "ISO/IEC 6937, its 74 basic characters alone" },
+/// The names of the forms of page, from 0 on.
+const NAMES: [&str; 8] = [
+    "picture",
+    "iso6937",
+    "iso6937-7bit",
+    "iso6937-7bit-parity",
+    "iso8859-16",
+    "sami",
+    "utf8",
+    "iso6937-basic",
 ];
+
+/// The forms of text by number and name, for the help of a program.
+pub const LISTED_FORMS: &str = "\
+Forms, by number or by name:
+  1  iso6937              ISO/IEC 6937 in eight bits
+  2  iso6937-7bit         ISO/IEC 6937 in seven bits
+  3  iso6937-7bit-parity  ISO/IEC 6937 in seven bits, with even parity
+  4  iso8859-16           ISO/IEC 8859-16
+  5  sami                 the Sami set, ISO-IR 209
+  6  utf8                 UTF-8
+  7  iso6937-basic        ISO/IEC 6937, its 74 basic characters alone";
 
 /// The number of the form of page that a word gives, by its name or its number: 0 for a picture,
 /// and 1 to 7 as a [`Form`] has them. None for any other word.
@@ -50,16 +49,5 @@ pub fn form_of_word(word: &str) -> Option<u8>
 pub fn form_name(form: Form) -> &'static str
     ensures { result.now ≡ name_of form }
 {
-    NAMED_FORMS[usize::from(u8::from(form))].name
-}
-
-/// The forms of page from a number on, each on a line with its number, its name and what its pages
-/// are, for the help of a program.
-pub fn listed_forms(heap: Global, first: usize) -> Result<String, AllocError> {
-    let mut list = String::from_str(heap, "Forms, by number or by name:")?;
-    for (number, form) in NAMED_FORMS.iter().enumerate().skip(first) {
-        let NamedForm { name, page } = *form;
-        write!(list, "\n  {number}  {name:<19}  {page}")?;
-    }
-    Ok(list)
+    NAMES[usize::from(u8::from(form))]
 }

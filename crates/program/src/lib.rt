@@ -1,8 +1,10 @@
 //! What the programs share: their version, their arguments, input and output, and how they end.
 #![tactic(auto)]
 
-ghost use Rattle.std.specs.Prelude.{◌≡◌};
-ghost use Rattle.program.specs.Endings.{status_of};
+ghost use Rattle.std.specs.Prelude.{◌≡◌, IfOk, IfErr, map, string_bytes};
+ghost use Rattle.clap.specs.Simple.{HasMatchesOf, app_of};
+ghost use Rattle.program.specs.Endings.{status_of, EndsAs, IsFailure, IsAnswerOrUsage};
+ghost use Rattle.program.specs.Endings.{NoWords};
 ghost use Rattle.program.specs.Files.{shown_name};
 
 use clap::{ArgMatches, Command};
@@ -54,7 +56,9 @@ impl From<AllocError> for Ending {
 }
 
 /// The words of the command line, the program's own first.
-pub fn words(rt: &HostRuntime) -> Result<Vec<String>, Ending> {
+pub fn words(rt: &HostRuntime) -> Result<Vec<String>, Ending>
+    ensures { IfErr result NoWords }
+{
     let heap = rt.alloc();
     match env::args(rt) {
         Ok(words) => Ok(words.collect(heap)?),
@@ -70,7 +74,10 @@ pub fn arguments<'a>(
     rt: &HostRuntime,
     command: Command<'a>,
     words: &'a [String],
-) -> Result<ArgMatches<'a>, Ending> {
+) -> Result<ArgMatches<'a>, Ending>
+    ensures matches { IfOk result (HasMatchesOf (app_of command.entry) (map string_bytes words.entry.now)) }
+    ensures refused { IfErr result IsAnswerOrUsage }
+{
     match command.try_get_matches_from(words) {
         Ok(matches) => Ok(matches),
         Err(error) => Err(told(rt, &error)?),
@@ -78,7 +85,9 @@ pub fn arguments<'a>(
 }
 
 /// What `clap` answers in place of arguments. Its text begins with `error: ` where they are wrong.
-fn told(rt: &HostRuntime, error: &clap::Error) -> Result<Ending, AllocError> {
+fn told(rt: &HostRuntime, error: &clap::Error) -> Result<Ending, AllocError>
+    ensures { IfOk result IsAnswerOrUsage }
+{
     let heap = rt.alloc();
     let text = format!(in heap; "{error}")?;
     if !error.use_stderr() {
@@ -101,7 +110,9 @@ pub fn file_name(file: &str) -> &str
 }
 
 /// The first bytes of a file, up to so many; `-` is standard input.
-pub fn read(rt: &HostRuntime, file: &str, at_most: u64) -> Result<Vec<u8>, Ending> {
+pub fn read(rt: &HostRuntime, file: &str, at_most: u64) -> Result<Vec<u8>, Ending>
+    ensures { IfErr result IsFailure }
+{
     if file != STANDARD_INPUT {
         return read_file(rt, file, at_most);
     }
@@ -113,7 +124,9 @@ pub fn read(rt: &HostRuntime, file: &str, at_most: u64) -> Result<Vec<u8>, Endin
 }
 
 /// The first bytes of a file of any name, up to so many.
-pub fn read_file(rt: &HostRuntime, file: &str, at_most: u64) -> Result<Vec<u8>, Ending> {
+pub fn read_file(rt: &HostRuntime, file: &str, at_most: u64) -> Result<Vec<u8>, Ending>
+    ensures { IfErr result IsFailure }
+{
     let mut bytes = Vec::new(rt.alloc());
     let done = match fs::open(rt, file) {
         Ok(opened) => opened.take(at_most).read_to_end(&mut bytes),
@@ -125,13 +138,17 @@ pub fn read_file(rt: &HostRuntime, file: &str, at_most: u64) -> Result<Vec<u8>, 
     }
 }
 
-fn unread(rt: &HostRuntime, file: &str, error: io::Error) -> Result<Ending, AllocError> {
+fn unread(rt: &HostRuntime, file: &str, error: io::Error) -> Result<Ending, AllocError>
+    ensures { IfOk result IsFailure }
+{
     let message = format!(in rt.alloc(); "cannot read {file}: {error}")?;
     Ok(Ending::Failed(message))
 }
 
 /// Writes bytes to standard output.
-pub fn write(rt: &HostRuntime, bytes: &[u8]) -> Result<(), Ending> {
+pub fn write(rt: &HostRuntime, bytes: &[u8]) -> Result<(), Ending>
+    ensures { IfErr result IsFailure }
+{
     match rt.stdout().write_all(bytes) {
         Ok(()) => Ok(()),
         Err(error) => Err(Ending::Failed(format!(in rt.alloc();
@@ -140,16 +157,10 @@ pub fn write(rt: &HostRuntime, bytes: &[u8]) -> Result<(), Ending> {
     }
 }
 
-/// The name by which a program was called, without its folders; in messages it stands in front.
-pub fn called<'a>(words: &'a [String], name: &'a str) -> &'a str {
-    match words.first() {
-        Some(path) => path.as_str().rsplit('/').next().unwrap_or(name),
-        None => name,
-    }
-}
-
 /// Says how a program ended, with its name in front, and answers its status.
-pub fn end(rt: &HostRuntime, name: &str, outcome: Result<(), Ending>) -> ExitCode {
+pub fn end(rt: &HostRuntime, name: &str, outcome: Result<(), Ending>) -> ExitCode
+    ensures { EndsAs outcome result }
+{
     let outcome = match outcome {
         Err(Ending::Answered(text)) => write(rt, text.as_bytes()),
         other => other,

@@ -6,8 +6,8 @@ ghost use Rattle.roll.specs.Forms.{form_number};
 ghost use Rattle.forms.specs.Names.{form_of_word};
 
 use clap::{Arg, Command};
-use forms::{FormSet, form_of_word, listed_forms};
-use program::{Ending, VERSION, arguments, called, end, file_name, read, words, write};
+use forms::{FormSet, LISTED_FORMS, form_of_word};
+use program::{Ending, VERSION, arguments, end, file_name, read, words, write};
 use report::FaultWords;
 use roll::Form;
 use std::alloc::{AllocError, Global};
@@ -16,7 +16,7 @@ use transcript::{Failure, Transcription, transcribe};
 
 const NAME: &str = "recode";
 
-fn command<'a>(heap: Global, forms: &'a str) -> Result<Command<'a>, AllocError> {
+fn command<'a>(heap: Global) -> Result<Command<'a>, AllocError> {
     let source = Arg::new(heap, "source")
         .value_name("SOURCE")
         .required(true)
@@ -32,7 +32,7 @@ fn command<'a>(heap: Global, forms: &'a str) -> Result<Command<'a>, AllocError> 
     Command::new(heap, NAME)
         .version(VERSION)
         .about("Recodes a text from one form into another")
-        .after_help(forms)
+        .after_help(LISTED_FORMS)
         .arg(source)?
         .arg(target)?
         .arg(file)
@@ -53,8 +53,7 @@ fn form(heap: Global, word: &str) -> Result<Form, Ending>
 
 fn run(rt: &HostRuntime, words: &[String]) -> Result<(), Ending> {
     let heap = rt.alloc();
-    let forms = listed_forms(heap, 1)?;
-    let given = arguments(rt, command(heap, forms.as_str())?, words)?;
+    let given = arguments(rt, command(heap)?, words)?;
     let source = form(heap, given.get_str("source").unwrap_or(""))?;
     let target = form(heap, given.get_str("target").unwrap_or(""))?;
     let file = given.get_str("file").unwrap_or("-");
@@ -78,7 +77,7 @@ fn run(rt: &HostRuntime, words: &[String]) -> Result<(), Ending> {
 
 fn main(rt: HostRuntime) -> ExitCode {
     match words(&rt) {
-        Ok(words) => end(&rt, called(&words, NAME), run(&rt, &words)),
+        Ok(words) => end(&rt, NAME, run(&rt, &words)),
         Err(ending) => end(&rt, NAME, Err(ending)),
     }
 }

@@ -2,8 +2,8 @@
 #![tactic(auto)]
 
 use clap::{Arg, Command};
-use forms::{form_of_word, listed_forms};
-use program::{Ending, VERSION, arguments, called, end, read_file, words, write};
+use forms::{LISTED_FORMS, form_of_word};
+use program::{Ending, VERSION, arguments, end, read_file, words, write};
 use report::LONGEST_INPUT;
 use roll::{Builder, LARGEST_ROLL};
 use std::alloc::{AllocError, Global};
@@ -11,16 +11,19 @@ use std::process::ExitCode;
 
 const NAME: &str = "rollmake";
 
-fn command<'a>(heap: Global, forms: &'a str) -> Result<Command<'a>, AllocError> {
+fn command<'a>(heap: Global) -> Result<Command<'a>, AllocError> {
     let pages = Arg::new(heap, "pages")
         .value_names(&["FORM", "FILE"])
         .num_args(2..)
         .required(true)
-        .help("The form of a page, and the file that has its bytes; -- goes before a file -x");
+        .help(
+            "The form of a page (0 or picture: one without text), and the file that has its \
+             bytes; -- goes before a file -x",
+        );
     Command::new(heap, NAME)
         .version(VERSION)
         .about("Packs files, each a page, into a roll")
-        .after_help(forms)
+        .after_help(LISTED_FORMS)
         .arg(pages)
 }
 
@@ -51,16 +54,14 @@ fn packed(rt: &HostRuntime, words: &[&str]) -> Result<Vec<u8>, Ending> {
 
 fn run(rt: &HostRuntime, words: &[String]) -> Result<(), Ending> {
     let heap = rt.alloc();
-    let forms = listed_forms(heap, 0)?;
-    let given = arguments(rt, command(heap, forms.as_str())?, words)?;
+    let given = arguments(rt, command(heap)?, words)?;
     let roll = packed(rt, given.get_strs("pages").unwrap_or(&[]))?;
     write(rt, &roll)?;
     if roll.len() > LONGEST_INPUT {
-        let name = called(words, NAME);
         let size = roll.len();
         // The roll is written all the same.
         let _ = eprintln!(rt;
-            "{name}: warning: the roll has {size} bytes, and finetalc reads \
+            "{NAME}: warning: the roll has {size} bytes, and finetalc reads \
             up to {LONGEST_INPUT}"
         );
     }
@@ -69,7 +70,7 @@ fn run(rt: &HostRuntime, words: &[String]) -> Result<(), Ending> {
 
 fn main(rt: HostRuntime) -> ExitCode {
     match words(&rt) {
-        Ok(words) => end(&rt, called(&words, NAME), run(&rt, &words)),
+        Ok(words) => end(&rt, NAME, run(&rt, &words)),
         Err(ending) => end(&rt, NAME, Err(ending)),
     }
 }
