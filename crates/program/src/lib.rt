@@ -75,7 +75,8 @@ pub fn arguments<'a>(
     command: Command<'a>,
     words: &'a [String],
 ) -> Result<ArgMatches<'a>, Ending>
-    ensures matches { IfOk result (HasMatchesOf (app_of command.entry) (map string_bytes words.entry.now)) }
+    ensures matches { IfOk result (HasMatchesOf (app_of command.entry)
+        (map string_bytes words.entry.now)) }
     ensures refused { IfErr result IsAnswerOrUsage }
 {
     match command.try_get_matches_from(words) {
