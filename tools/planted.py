@@ -8,7 +8,7 @@
                                     target/planted/NAME.txt, if it was made; those of every crate
                                     that has one, if no name is given
     tools/planted.py bare [NAME..]  lists the functions with a contract that no edit of
-                                    tools/planted/NAME.txt changes
+                                    tools/planted/NAME.txt or of must-fail/ changes
 
 An edit is a block of lines: `plant:` with a name and the function, `file:`, and then pairs of
 `old:` and `new:`, one line each, where the old text stands in the file exactly once. An edit ends
@@ -222,8 +222,9 @@ def has_contract(lines, head):
 def bare(name):
     """The functions with a contract, and a body, that no edit written by hand changes."""
     source = TOP / "crates" / name
-    one = LISTS / f"{name}.txt"
-    edited = re.findall(r"^file: (.*)\nold: (.*)$", one.read_text(), re.M) if one.exists() else []
+    texts = [LISTS / f"{name}.txt", *(source / "must-fail").glob("*.edit")]
+    written = "\n".join(one.read_text() for one in texts if one.exists())
+    edited = re.findall(r"^file: (.*)\nold: (.*)$", written, re.M)
     for file in sorted((source / "src").rglob("*.rt")):
         lines = file.read_text().split("\n")
         olds = [old.strip() for path, old in edited if source / path == file]
