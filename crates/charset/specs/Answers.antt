@@ -4,7 +4,7 @@ use Rattle.std.specs.Prelude.{None, Ok, Err, Option, Result}
 use Rattle.charset.specs.declared.SetRefusal.{SetRefusal}
 use Rattle.charset.specs.declared.Reading.{Reading}
 use Rattle.charset.specs.declared.Reading.TheVariants.{Found, Open}
-use Rattle.charset.specs.Meaning.{Meaning, Codes, IsOpening, Unreadable}
+use Rattle.charset.specs.Meaning.{Meaning, Codes, IsOpening, Unreadable, HasNoCoding}
 
 abbrev pub ReadAnswer : Type 0
 ReadAnswer = Result Reading SetRefusal
@@ -15,9 +15,22 @@ Reads m s (Ok (Found c n)) = (n ≤ length s) × Codes m (take n s) c
 Reads m s (Ok Open) = IsOpening m s
 Reads m s (Err q) = Unreadable m s × (q ≡ m.causes s)
 
--- writing c answers its coding, if it has one
-abbrev pub Writes : Meaning → ℕ → Option (List ℕ) → Type 0
-Writes m c r = r ≡ m.codings.string c
+abbrev pub WriteAnswer : Type 0
+WriteAnswer = Result (List ℕ) SetRefusal
+
+-- a coding, or the cause of there being none
+abbrev pub coded_or : SetRefusal → Option (List ℕ) → WriteAnswer
+coded_or q None = Err q
+coded_or q (Some s) = Ok s
+
+-- the answer to writing c
+abbrev pub writing : Meaning → ℕ → WriteAnswer
+writing m c = coded_or (m.write_causes c) (m.codings.string c)
+
+-- writing c answers its coding, else its cause
+abbrev pub Writes : Meaning → ℕ → WriteAnswer → Type 0
+Writes m c (Ok s) = m.codings.string c ≡ Some s
+Writes m c (Err q) = HasNoCoding m c × (q ≡ m.write_causes c)
 
 -- r, unless a character of length n is found
 abbrev pub found_or : Option ℕ → ℕ → ReadAnswer → ReadAnswer

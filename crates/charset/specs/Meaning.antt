@@ -1,7 +1,7 @@
 -- A character set by its meaning, and the laws of every set.
 -- A string is a list of numbers; the laws say that those of codings and openings are bytes.
 use Rattle.std.specs.Prelude.{◌≡◌, ℕ, ◌<◌, ◌≤◌, Bool, true, false, List, []}
-use Rattle.std.specs.Prelude.{length, take, Some, Option}
+use Rattle.std.specs.Prelude.{length, take, Some, None, Option}
 use Rattle.charset.specs.declared.SetRefusal.{SetRefusal}
 use Rattle.charset.specs.Strings.{AreBytes, OneToFour}
 
@@ -11,20 +11,23 @@ pub record Codings : Type 0 where
   pub character : List ℕ → Option ℕ
   pub string : ℕ → Option (List ℕ)
 
--- a character set: its codings, whether a string is an opening, and the cause of a string
+-- a character set: its codings, whether a string is an opening, the cause of a string that cannot
+-- be read, and that of a character that cannot be written
 pub record Meaning : Type 0 where
   pub codings : Codings
   pub openings : List ℕ → Bool
   pub causes : List ℕ → SetRefusal
+  pub write_causes : ℕ → SetRefusal
 
--- the three parts as one
-abbrev pub meaning : Codings → (List ℕ → Bool) → (List ℕ → SetRefusal) → Meaning
-meaning k o q = record { codings = k; openings = o; causes = q }
+-- the four parts as one
+abbrev pub meaning : Codings → (List ℕ → Bool) → (List ℕ → SetRefusal) → (ℕ → SetRefusal)
+    → Meaning
+meaning k o q w = record { codings = k; openings = o; causes = q; write_causes = w }
 
 -- the meaning of x, by what says each part of it
 abbrev pub meaning_of : {X : Type 0} → (X → Codings) → (X → List ℕ → Bool)
-    → (X → List ℕ → SetRefusal) → X → Meaning
-meaning_of k o q x = meaning (k x) (o x) (q x)
+    → (X → List ℕ → SetRefusal) → (X → ℕ → SetRefusal) → X → Meaning
+meaning_of k o q w x = meaning (k x) (o x) (q x) (w x)
 
 -- s is the coding of c
 abbrev pub Codes : Meaning → List ℕ → ℕ → Type 0
@@ -41,6 +44,10 @@ NoFront m s = (n c : ℕ) → Codes m (take n s) c → ⊥
 -- s is no opening and has no coding in front: the strings that have a cause
 abbrev pub Unreadable : Meaning → List ℕ → Type 0
 Unreadable m s = NoFront m s × (m.openings s ≡ false)
+
+-- c has no coding: the characters that have a cause
+abbrev pub HasNoCoding : Meaning → ℕ → Type 0
+HasNoCoding m c = m.codings.string c ≡ None
 
 -- c is a code point, up to U+10FFFF
 abbrev pub IsCodePoint : ℕ → Type 0
@@ -76,3 +83,5 @@ pub record Laws (m : Meaning) : Type 0 where
   pub cause_sized : (s : List ℕ) → Unreadable m s → IsTwoBytes (m.causes s)
   pub cause_stays : (s : List ℕ) (n : ℕ) → Unreadable m (take n s)
       → m.causes s ≡ m.causes (take n s)
+  -- the cause of a character is two bytes too
+  pub write_cause_sized : (c : ℕ) → HasNoCoding m c → IsTwoBytes (m.write_causes c)

@@ -15,11 +15,11 @@ pub use by_laws::read_front;
 pub use coding::Coding;
 pub use front::Front;
 
-/// Why a string cannot be read.
+/// Why a string cannot be read, or a character cannot be written.
 #[derive(Clone, Copy, PartialEq, Eq, Debug)]
 pub struct SetRefusal {
     /// The number of the cause. Any set may have causes of its own; those of the sets and layers
-    /// here are 31 to 37.
+    /// here are 31 to 38.
     pub cause: u8,
     /// How many layers lie above the one that refused; 255 where there are more.
     pub depth: u8,
@@ -46,16 +46,21 @@ pub trait CharacterSet {
     // The cause of a string that is no opening and has no coding in front.
     ghost causes: { Self → List ℕ → SetRefusal };
 
+    // The cause of a character that has no coding.
+    ghost write_causes: { Self → ℕ → SetRefusal };
+
     /// What stands in front of the bytes: the coding of a character, or an opening alone; else the
     /// cause of the shortest beginning that has one. No more than four bytes decide it.
     fn read(&self, bytes: &[u8]) -> Result<Reading, SetRefusal>
-        ensures { Reads (meaning_of codings openings causes self.now) bytes.now result };
+        ensures { Reads (meaning_of codings openings causes write_causes self.now)
+            bytes.now result };
 
-    /// The coding of the character with that code point; `None` if it has none, as no number above
-    /// U+10FFFF has.
-    fn write(&self, number: u32) -> Option<Coding>
-        ensures { Writes (meaning_of codings openings causes self.now) number result };
+    /// The coding of the character with that code point; else the cause for which it has none, as
+    /// no number above U+10FFFF has one.
+    fn write(&self, number: u32) -> Result<Coding, SetRefusal>
+        ensures { Writes (meaning_of codings openings causes write_causes self.now)
+            number result };
 
-    // That the three keep the laws.
-    ghost lawful: { (s : Self) → Laws (meaning_of codings openings causes s) };
+    // That the four keep the laws.
+    ghost lawful: { (s : Self) → Laws (meaning_of codings openings causes write_causes s) };
 }

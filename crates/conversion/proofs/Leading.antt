@@ -6,6 +6,7 @@ use Rattle.std.proofs.Common.{length-append, take-append-drop}
 use lib.Seq.{take-append_seam}
 use Rattle.std.proofs.lemmas.Bool.{lt-ltb, le-ltb}
 use Rattle.charset.specs.declared.Reading.TheVariants.{Found, Open}
+use Rattle.charset.specs.declared.SetRefusal.{SetRefusal}
 use Rattle.charset.specs.Meaning.{Meaning, Codes, Laws}
 use Rattle.charset.specs.Answers.{ReadAnswer, Reads, reading}
 use Rattle.charset.specs.Decoding.{Spells}
@@ -20,13 +21,14 @@ data Outcome : Type 0 where
   writes : List ℕ → Outcome
   halts : End → Outcome
 
-abbrev coded_outcome : ℕ → Option (List ℕ) → ℕ → ℕ → Outcome
-coded_outcome c None used room = halts (Err (Unwritten c))
-coded_outcome c (Some v) used room =
+abbrev coded_outcome : ℕ → SetRefusal → Option (List ℕ) → ℕ → ℕ → Outcome
+coded_outcome c q None used room = halts (Err (Unwritten c q))
+coded_outcome c q (Some v) used room =
     cond (ltb room (used + length v)) (halts (Ok pause.Full)) (writes v)
 
 abbrev outcome : Meaning → ReadAnswer → ℕ → ℕ → Outcome
-outcome T (Ok (Found c n)) used room = coded_outcome c (T.codings.string c) used room
+outcome T (Ok (Found c n)) used room =
+    coded_outcome c (T.write_causes c) (T.codings.string c) used room
 outcome T (Ok Open) used room = halts (Ok pause.Open)
 outcome T (Err q) used room = halts (Err (Unread q))
 
@@ -68,8 +70,8 @@ module _ (S T : Meaning) (l : Laws S) where
   stops_outcome rest used room (Ok pause.Open) h = rw (reading_is l rest (Ok Open) h)
   stops_outcome rest used room (Ok pause.Full) h =
       rw (reading_is l rest (Ok (Found h.0 h.1)) h.3, h.4, lt-ltb _ _ h.5)
-  stops_outcome rest used room (Err (Unwritten c)) h =
-      rw (reading_is l rest (Ok (Found c h.0)) h.1, h.2)
+  stops_outcome rest used room (Err (Unwritten c q)) h =
+      rw (reading_is l rest (Ok (Found c h.0)) h.1, h.2.0, h.2.1)
   stops_outcome rest used room (Err (Unread q)) h = rw (reading_is l rest (Err q) h)
   stops_outcome rest used room (Err Unfinished) h = absurd h
 

@@ -14,7 +14,7 @@ use Rattle.conversion.specs.Transcribed.{Ends, Transcribed, TheTranscription}
 abbrev as_end : Option Fault → End
 as_end None = Ok Open
 as_end (Some (Unread q)) = Err (Unread q)
-as_end (Some (Unwritten c)) = Err (Unwritten c)
+as_end (Some (Unwritten c q)) = Err (Unwritten c q)
 as_end (Some Unfinished) = Ok Open
 
 -- and back
@@ -28,7 +28,7 @@ module _ (S T : Meaning) (l : Laws S) where
       → as_stop rest (as_end stop) ≡ stop
   stop_back rest None h = rw h refl
   stop_back rest (Some (Unread q)) h = refl
-  stop_back rest (Some (Unwritten c)) h = refl
+  stop_back rest (Some (Unwritten c q)) h = refl
   stop_back [] (Some Unfinished) h = absurd (omega (arith, h.1))
   stop_back (b ∷ s) (Some Unfinished) h = refl
 
@@ -36,7 +36,7 @@ module _ (S T : Meaning) (l : Laws S) where
       → Stops S T rest used room (as_end stop)
   stops rest used room None h = rw h l.empty_opens
   stops rest used room (Some (Unread q)) h = h
-  stops rest used room (Some (Unwritten c)) h = h
+  stops rest used room (Some (Unwritten c q)) h = h
   stops rest used room (Some Unfinished) h = h.0
 
   reaches : {bytes t : List ℕ} {n i : ℕ} {stop : Option Fault}

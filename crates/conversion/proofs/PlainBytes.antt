@@ -43,7 +43,7 @@ module _ {S : Meaning} (T : Meaning) (l : Laws S) (b : ℕ) where
   plain_of_next (Ok (Some p)) h = sym (rw (whole l b h.0 p.1 h.1, h.2))
   plain_of_next (Ok None) h = sym (silent (l.opening_bare (b ∷ []) h))
   plain_of_next (Err (Unread q)) h = sym (silent h.0.0)
-  plain_of_next (Err (Unwritten c)) h = sym (rw (whole l b c h.0 h.1, h.2))
+  plain_of_next (Err (Unwritten c q)) h = sym (rw (whole l b c h.0 h.1, h.2.0))
   plain_of_next (Err Unfinished) h = absurd h
 
 -- where nothing is known of any byte, nothing is wrong

@@ -168,7 +168,7 @@ module _ (S T : Meaning) (l : Laws S) (input out o : List â„•) (count at put : â
       let into = far.room in let same = far.size in
       let less : length o - put < 0 + length h.2 = rw (take_rest o put, length-drop) at h.5 in
       (h.0, h.1, h.2, h.3, h.4, omega arith)
-  used (Err (Unwritten c)) h = h
+  used (Err (Unwritten c q)) h = h
   used (Err (Unread q)) h = h
   used (Err Unfinished) h = h
 

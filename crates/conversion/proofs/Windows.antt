@@ -33,7 +33,7 @@ module _ {S : Meaning} (T : Meaning) (l : Laws S) (s : List ℕ) where
   stops_four used room (Ok pause.Open) h = reads_four (Ok Open) h
   stops_four used room (Ok pause.Full) h =
       (h.0, h.1, h.2, reads_four (Ok (Found h.0 h.1)) h.3, h.4, h.5)
-  stops_four used room (Err (Unwritten c)) h = (h.0, reads_four (Ok (Found c h.0)) h.1, h.2)
+  stops_four used room (Err (Unwritten c q)) h = (h.0, reads_four (Ok (Found c h.0)) h.1, h.2)
   stops_four used room (Err (Unread q)) h = reads_four (Err q) h
   stops_four used room (Err Unfinished) h = h
 

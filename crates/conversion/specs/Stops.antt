@@ -1,9 +1,10 @@
 -- Characters that lead from one set into another, and what ends them.
 use Rattle.std.specs.Prelude.{◌≡◌, ℕ, ◌+◌, ◌<◌, ◌≤◌, List, ◌++◌, length}
-use Rattle.std.specs.Prelude.{Some, None, Ok, Err, Result}
+use Rattle.std.specs.Prelude.{Some, Ok, Err, Result}
 use Rattle.charset.specs.declared.Reading.TheVariants.{Found, Open}
 use Rattle.charset.specs.Meaning.{Meaning}
-use Rattle.charset.specs.Answers.{Reads}
+use Rattle.charset.specs.declared.SetRefusal.{SetRefusal}
+use Rattle.charset.specs.Answers.{Reads, Writes}
 use Rattle.charset.specs.Decoding.{Spells}
 use Rattle.conversion.specs.declared.Fault.{Fault}
 use Rattle.conversion.specs.declared.Fault.TheVariants.{Unread, Unwritten, Unfinished}
@@ -23,10 +24,9 @@ pub record Leads (S T : Meaning) (input : List ℕ) (room : ℕ)
   pub begins : input ≡ source ++ rest
   pub fits : length target ≤ room
 
--- the character c stands in front, and has no coding in the target set
-abbrev pub IsUnwritable : Meaning → Meaning → List ℕ → ℕ → Type 0
-IsUnwritable S T rest c =
-    (n : ℕ) × Reads S rest (Ok (Found c n)) × (T.codings.string c ≡ None)
+-- the character c stands in front, and the target set cannot write it, with that cause
+abbrev pub IsUnwritable : Meaning → Meaning → List ℕ → ℕ → SetRefusal → Type 0
+IsUnwritable S T rest c q = (n : ℕ) × Reads S rest (Ok (Found c n)) × Writes T c (Err q)
 
 -- what comes next is an end: with used bytes of the output written,
 -- the rest is an opening; or the target coding of its first character does not fit; or that
@@ -37,7 +37,7 @@ Stops S T rest used room (Ok pause.Full) =
     (c n : ℕ) × (v : List ℕ) × Reads S rest (Ok (Found c n))
     × (T.codings.string c ≡ Some v)
     × (room < used + length v)
-Stops S T rest used room (Err (Unwritten c)) = IsUnwritable S T rest c
+Stops S T rest used room (Err (Unwritten c q)) = IsUnwritable S T rest c q
 Stops S T rest used room (Err (Unread q)) = Reads S rest (Err q)
 Stops S T rest used room (Err Unfinished) = ⊥
 

@@ -13,7 +13,7 @@ use Rattle.conversion.specs.Stops.{IsUnwritable}
 abbrev pub Ends : Meaning → Meaning → List ℕ → Option Fault → Type 0
 Ends S T rest None = rest ≡ []
 Ends S T rest (Some (Unread q)) = Reads S rest (Err q)
-Ends S T rest (Some (Unwritten c)) = IsUnwritable S T rest c
+Ends S T rest (Some (Unwritten c q)) = IsUnwritable S T rest c q
 Ends S T rest (Some Unfinished) = Reads S rest (Ok Open) × (0 < length rest)
 
 -- the bytes up to the offset are characters in source codings, and the text is the same characters

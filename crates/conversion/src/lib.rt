@@ -3,7 +3,7 @@
 
 ghost use Rattle.std.specs.Prelude.{◌≡◌};
 ghost use Rattle.charset.specs.Sets.{set_of};
-ghost use Rattle.conversion.specs.declared.Fault.TheVariants.{Unread};
+ghost use Rattle.conversion.specs.declared.Fault.TheVariants.{Unread, Unwritten};
 ghost use Rattle.conversion.specs.Next.{ComesNext};
 
 mod converter;
@@ -18,17 +18,32 @@ pub use converter::Converter;
 pub enum Fault {
     /// No coding stands in front, and what is left is no opening.
     Unread(SetRefusal),
-    /// The character in front, by its code point, has no coding in the target set.
-    Unwritten(u32),
+    /// The character in front has no coding in the target set.
+    Unwritten {
+        /// Its code point.
+        character: u32,
+        /// Why the target set cannot write it.
+        refusal: SetRefusal,
+    },
     /// The input is closed while bytes wait for more.
     Unfinished,
 }
 
+/// The source set's refusal of bytes.
 impl From<SetRefusal> for Fault {
     ghost from_gives = { λ e r. r ≡ Unread e };
 
     fn from(refusal: SetRefusal) -> Fault {
         Fault::Unread(refusal)
+    }
+}
+
+/// The target set's refusal of a character.
+impl From<(u32, SetRefusal)> for Fault {
+    ghost from_gives = { λ e r. r ≡ Unwritten e.0 e.1 };
+
+    fn from((character, refusal): (u32, SetRefusal)) -> Fault {
+        Fault::Unwritten { character, refusal }
     }
 }
 
@@ -74,6 +89,8 @@ fn next_coding<S: CharacterSet, T: CharacterSet>(
     let Reading::Found { character, length } = source.read(input)? else {
         return Ok(None);
     };
-    let coding = target.write(character).ok_or(Fault::Unwritten(character))?;
+    let coding = target
+        .write(character)
+        .map_err(|refusal| (character, refusal))?;
     Ok(Some((coding, length)))
 }

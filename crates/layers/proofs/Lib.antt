@@ -9,3 +9,4 @@ pub mod Required
 mod Faults
 mod Firsts
 mod Once
+mod Unwritten

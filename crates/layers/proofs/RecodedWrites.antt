@@ -8,103 +8,107 @@ use Rattle.charset.specs.Strings.{with_byte}
 use Rattle.layers.specs.declared.recoding.moves.WrittenByte.{WrittenByte}
 use Rattle.layers.specs.declared.recoding.moves.WrittenByte.TheVariants.{One, Two}
 use Rattle.layers.specs.Recoding.{Recoding, before, in_form, at_most_four}
-use Rattle.layers.specs.Scans.{extended}
+use Rattle.layers.specs.Scans.{extended_if}
 
 -- u, then what may follow
 abbrev pub ahead : List ℕ → Option (List ℕ) → Option (List ℕ)
 ahead u None = None
 ahead u (Some v) = Some (u ++ v)
 
-joined_parts : (u : List ℕ) (x : ℕ) (w : List ℕ) → with_byte u x ≡ Some w
-    → (length u < 4) × (w ≡ u ++ x ∷ [])
-joined_parts u x w e = elim (cases_lt (length u) 4) [
-  | inl h ↦ (h, let f : Some (u ++ x ∷ []) ≡ Some w = rw (lt-ltb (length u) 4 h) at e in cc)
-  | inr h ↦ let f : None ≡ Some w = rw (le-ltb (length u) 4 h) at e in cc
-]
+ahead_nothing : (o : Option (List ℕ)) → o ≡ ahead [] o
+ahead_nothing None = refl
+ahead_nothing (Some v) = refl
 
-joined_none : (u : List ℕ) (x : ℕ) → with_byte u x ≡ None → 4 ≤ length u
-joined_none u x e = elim (cases_lt (length u) 4) [
-  | inl h ↦ let f : Some (u ++ x ∷ []) ≡ None = rw (lt-ltb (length u) 4 h) at e in cc
-  | inr h ↦ h
-]
+ahead_both : (u v : List ℕ) (o : Option (List ℕ)) → ahead u (ahead v o) ≡ ahead (u ++ v) o
+ahead_both u v None = refl
+ahead_both u v (Some w) = ap Some (sym (append_assoc u v w))
 
-long : (w : List ℕ) → 4 < length w → at_most_four (Some w) ≡ None
-long w h = rw (lt-leb (length w) 4 h) refl
+-- the bytes that a byte below is written in
+abbrev bytes_of : WrittenByte → List ℕ
+bytes_of (One x) = x ∷ []
+bytes_of (Two x y) = x ∷ y ∷ []
 
-pub extends : (u : List ℕ) (f : WrittenByte) (w : List ℕ) → extended u f ≡ Some w
-    → (length w ≤ 4) × ((o : Option (List ℕ)) → ahead u (before (Some f) o) ≡ ahead w o)
-extends u (One x) w e =
-    let p = joined_parts u x w e in
-    (rw (p.1, length-append u (x ∷ [])) (omega (arith, p.0)), go p.1)
-  where
-    go : w ≡ u ++ x ∷ [] → (o : Option (List ℕ))
-        → ahead u (before (Some (One x)) o) ≡ ahead w o
-    go h None = refl
-    go h (Some v) = ap Some (sym (ap (λ z. z ++ v) h ∙ append_assoc u (x ∷ []) v))
-extends u (Two x y) w e = go (with_byte u x) refl e
-  where
-    last : (v : List ℕ) → v ≡ u ++ x ∷ [] → w ≡ v ++ y ∷ []
-        → (o : Option (List ℕ)) → ahead u (before (Some (Two x y)) o) ≡ ahead w o
-    last v h k None = refl
-    last v h k (Some z) =
-        ap Some (sym (ap (λ q. q ++ z) (k ∙ ap (λ q. q ++ y ∷ []) h)
-        ∙ append_assoc (u ++ x ∷ []) (y ∷ []) z ∙ append_assoc u (x ∷ []) (y ∷ z)))
+before_some : (f : WrittenByte) (o : Option (List ℕ)) → before (Some f) o ≡ ahead (bytes_of f) o
+before_some (One x) None = refl
+before_some (One x) (Some v) = refl
+before_some (Two x y) None = refl
+before_some (Two x y) (Some v) = refl
 
-    go : (j : Option (List ℕ)) → with_byte u x ≡ j
-        → option_and_then (λ v. with_byte v y) j ≡ Some w
-        → (length w ≤ 4)
-        × ((o : Option (List ℕ)) → ahead u (before (Some (Two x y)) o) ≡ ahead w o)
-    go None h k = cc
-    go (Some v) h k =
-        let p = joined_parts u x v h in
-        let q = joined_parts v y w k in
-        (rw (q.1, length-append v (y ∷ [])) (omega (arith, q.0)), last v p.1 q.1)
+before_none : (o : Option (List ℕ)) → before None o ≡ None
+before_none None = refl
+before_none (Some v) = refl
 
-too_long : (u : List ℕ) (x : ℕ) (v : List ℕ) → 4 ≤ length u
-    → at_most_four (Some (u ++ x ∷ v)) ≡ None
-too_long u x v h = long (u ++ x ∷ v) (rw (length-append u (x ∷ v)) (omega arith))
+-- one more byte behind at most four
+one_more : (u : List ℕ) (x : ℕ)
+    → option_and_then (λ w. with_byte w x) (at_most_four (Some u)) ≡ at_most_four (Some (u ++ x ∷ []))
+one_more u x =
+    let size : length (u ++ x ∷ []) ≡ length u + 1 = length-append u (x ∷ []) in
+    elim (cases_lt (length u) 4) [
+      | inl h ↦ rw (
+        le-leb (length u) 4 (omega (arith, h)),
+        lt-ltb (length u) 4 h,
+        le-leb (length (u ++ x ∷ [])) 4 (omega (arith, h, size)),
+      ) refl
+      | inr h ↦ elim (cases_lt 4 (length u)) [
+        | inl g ↦ rw (
+          lt-leb (length u) 4 g,
+          lt-leb (length (u ++ x ∷ [])) 4 (omega (arith, g, size)),
+        ) refl
+        | inr g ↦ rw (
+          le-leb (length u) 4 g,
+          le-ltb (length u) 4 h,
+          lt-leb (length (u ++ x ∷ [])) 4 (omega (arith, h, size)),
+        ) refl
+      ]
+    ]
 
-pub fails : (u : List ℕ) (f : WrittenByte) → extended u f ≡ None → (o : Option (List ℕ))
-    → at_most_four (ahead u (before (Some f) o)) ≡ None
-fails u f e None = refl
-fails u (One x) e (Some v) = too_long u x v (joined_none u x e)
-fails u (Two x y) e (Some v) = go (with_byte u x) refl e
-  where
-    go : (j : Option (List ℕ)) → with_byte u x ≡ j
-        → option_and_then (λ v. with_byte v y) j ≡ None
-        → at_most_four (Some (u ++ x ∷ y ∷ v)) ≡ None
-    go None h k = too_long u x (y ∷ v) (joined_none u x h)
-    go (Some w) h k =
-        let p = joined_parts u x w h in
-        let q = joined_none w y k in
-        long (u ++ x ∷ y ∷ v) (rw (length-append u (x ∷ y ∷ v))
-        (omega (arith, rw (p.1, length-append u (x ∷ [])) at q)))
+then_then : {X Y Z : Type 0} (f : X → Option Y) (g : Y → Option Z) (o : Option X)
+    → option_and_then (λ x. option_and_then g (f x)) o ≡ option_and_then g (option_and_then f o)
+then_then f g None = refl
+then_then f g (Some x) = refl
 
--- what the bytes so far promise of the whole
-pub record Made (r : Recoding) (t : List ℕ) (i : ℕ) (u : List ℕ) : Type 0 where
-  pub small : length u ≤ 4
+extends : (u : List ℕ) (f : WrittenByte)
+    → extended_if (at_most_four (Some u)) f ≡ at_most_four (Some (u ++ bytes_of f))
+extends u (One x) = one_more u x
+extends u (Two x y) =
+    then_then (λ w. with_byte w x) (λ w. with_byte w y) (at_most_four (Some u))
+    ∙ ap (option_and_then (λ w. with_byte w y)) (one_more u x)
+    ∙ one_more (u ++ x ∷ []) y
+    ∙ ap (λ z. at_most_four (Some z)) (append_assoc u (x ∷ []) (y ∷ []))
+
+-- the bytes before i have forms, together u, and o is u if these are at most four bytes
+pub record Made (r : Recoding) (t : List ℕ) (i : ℕ) (o : Option (List ℕ)) : Type 0 where
+  pub u : List ℕ
   pub whole : in_form r t ≡ ahead u (in_form r (drop i t))
+  pub kept : o ≡ at_most_four (Some u)
 
-module _ (r : Recoding) (t : List ℕ) (i : ℕ) (u : List ℕ) (made : Made r t i u) where
+pub made_none : (r : Recoding) (t : List ℕ) (o : Option (List ℕ)) → o ≡ Some [] → Made r t 0 o
+made_none r t o e = record { u = []; whole = ahead_nothing (in_form r t); kept = e }
+
+module _ (r : Recoding) (t : List ℕ) (i : ℕ) (o : Option (List ℕ)) (made : Made r t i o) where
   module _ (h : i < length t) where
     here : in_form r (drop i t) ≡ before (r.form (get_or t i 0)) (in_form r (drop (i + 1) t))
     here = ap (in_form r) (drop-cons t i 0 h) ∙ rw (add-one i) refl
 
-    pub made_more : (f : WrittenByte) (w : List ℕ) → r.form (get_or t i 0) ≡ Some f
-        → extended u f ≡ Some w → Made r t (i + 1) w
-    made_more f w k e =
-        let x = extends u f w e in record {
-          small = x.0;
+    pub made_more : (f : WrittenByte) (p : Option (List ℕ)) → r.form (get_or t i 0) ≡ Some f
+        → p ≡ extended_if o f → Made r t (i + 1) p
+    made_more f p k e =
+        let rest = in_form r (drop (i + 1) t) in
+        record {
+          u = made.u ++ bytes_of f;
           whole =
-              made.whole ∙ rw (here, k) (x.1 (in_form r (drop (i + 1) t)));
+              made.whole ∙ ap (ahead made.u) (rw (here, k) (before_some f rest))
+              ∙ ahead_both made.u (bytes_of f) rest;
+          kept = e ∙ ap (λ z. extended_if z f) made.kept ∙ extends made.u f;
         }
 
-    pub made_fails : (f : WrittenByte) → r.form (get_or t i 0) ≡ Some f
-        → extended u f ≡ None → at_most_four (in_form r t) ≡ None
-    made_fails f k e = rw (made.whole, here, k) (fails u f e (in_form r (drop (i + 1) t)))
+    pub made_fails : r.form (get_or t i 0) ≡ None → in_form r t ≡ None
+    made_fails k =
+        let rest = in_form r (drop (i + 1) t) in
+        let none : in_form r (drop i t) ≡ None = rw (here, k) (before_none rest) in
+        made.whole ∙ rw none refl
 
-  pub made_whole : length t ≤ i → at_most_four (in_form r t) ≡ Some u
+  pub made_whole : length t ≤ i → in_form r t ≡ Some made.u
   made_whole h =
       let none : drop i t ≡ [] = drop_of_length-le t h in
-      let all : in_form r t ≡ Some u = made.whole ∙ rw none (ap Some (append-nil u)) in
-      rw (all, le-leb (length u) 4 made.small) refl
+      made.whole ∙ rw none (ap Some (append-nil made.u))

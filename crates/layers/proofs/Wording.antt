@@ -9,7 +9,6 @@ use lib.Seq.{take-append_seam}
 use lib.Count.{ones}
 use Rattle.std.proofs.lemmas.Bool.{cases_lt, both_ways}
 use Rattle.std.proofs.lemmas.Bool.Decides.{nat_tests}
-use Rattle.charset.specs.Strings.{AreBytes}
 use Rattle.charset.specs.declared.Reading.TheVariants.{Open}
 use Rattle.charset.specs.Meaning.{Meaning, Codes, IsOpening, Unreadable, Laws}
 use Rattle.layers.specs.declared.recoding.moves.Move.{Move}
@@ -29,6 +28,7 @@ use Rattle.layers.specs.Laws.Recode.{codes_parts, codes_from, opens_parts, opens
 use Rattle.layers.specs.Laws.Recode.{in_form_reads, reads_in_form}
 use Rattle.layers.specs.Laws.LayersKeep.{parity_agrees, shift_agrees, parity_laws, shift_laws}
 use Rattle.layers.proofs.Faults.{first_fault}
+use Rattle.layers.proofs.Unwritten.{byte_at, passes_up, own_fault, own_length, nothing_else}
 
 -- Parity: a byte's form is that byte with its parity
 parity_in_form : (t s : List ℕ) → InParity t s → in_form parity_bytes t ≡ Some s
@@ -381,6 +381,28 @@ parity_meaning m l = record {
         kind f.0 f.2 (byte_at f.0 f.1 f.2 (rw f.3 at b))
             (fault parity_agrees m l f.0 f.2 f.4 f.5),
       );
+  unwritten_below = passes_up parity_bytes m l;
+  eight_bits = λ c h.
+      own_fault parity_bytes m l c h.0 h.1 h.2 (l.read _ c h.3) (eight_formless h.2 h.4);
+  write_causes_only = λ c h. elim (nothing_else parity_bytes m l c h) [
+    | inl e ↦ inl e
+    | inr w ↦ elim w.2 [
+      | inl f ↦ inr (
+        f.0,
+        f.1,
+        f.2,
+        subst (λ z. Codes m z c) f.3 (l.written c w.0 w.1),
+        formless_eight f.2 f.4,
+      )
+      | inr f ↦ absurd (omega (
+        arith,
+        f.2,
+        ap length (in_form_parity w.0 f.0 f.1).1,
+        length-map w.0 in_parity,
+        (l.sized w.0 c (l.written c w.0 w.1)).1,
+      ))
+    ]
+  ];
 }
   where
     odd : (x : ℕ) → ones x % 2 ≡ 1 → parity_bytes.step false x ≡ None
@@ -389,9 +411,11 @@ parity_meaning m l = record {
     never_held : (x : ℕ) → parity_bytes.step false x ≡ Some Hold → ⊥
     never_held x e = grind (arith, nat_tests)
 
-    byte_at : (p rest : List ℕ) (x : ℕ) → AreBytes (p ++ x ∷ rest) → x < 0x100
-    byte_at [] rest x h = h.0
-    byte_at (y ∷ p) rest x h = byte_at p rest x h.1
+    eight_formless : (b : ℕ) → 0x80 ≤ b → parity_form b ≡ None
+    eight_formless b h = grind (arith, nat_tests)
+
+    formless_eight : (b : ℕ) → parity_form b ≡ None → 0x80 ≤ b
+    formless_eight b e = grind (arith, nat_tests)
 
     wrong_odd : (x : ℕ) → x < 0x100 → parity_bytes.step false x ≡ None → ones x % 2 ≡ 1
     wrong_odd x h e = grind (arith, nat_tests)
@@ -435,8 +459,38 @@ shift_meaning m l = record {
   causes_only =
       λ s u. let f = first_fault (shift m) (shift_laws l).empty_opens s u in
       (f.0, f.1, f.2, f.3, f.4, kind f.0 f.2 (fault shift_agrees m l f.0 f.2 f.4 f.5));
+  unwritten_below = passes_up shift_bytes m l;
+  forbidden_byte = λ c h.
+      own_fault shift_bytes m l c h.0 h.1 h.2 (l.read _ c h.3) (forbidden_formless h.2 h.4);
+  shifts_too_long = λ c h.
+      own_length shift_bytes m l c h.0 h.1 (l.read _ c h.2) (shifts_in_form h.0 h.1 h.3) h.4;
+  write_causes_only = λ c h. elim (nothing_else shift_bytes m l c h) [
+    | inl e ↦ inl e
+    | inr w ↦ let p = l.written c w.0 w.1 in elim w.2 [
+      | inl f ↦ let q = subst (λ z. Codes m z c) f.3 p in inr (inl (
+        f.0,
+        f.1,
+        f.2,
+        q,
+        formless_forbidden f.2 (byte_at f.0 f.1 f.2 (l.bytes _ c q)) f.4,
+      ))
+      | inr f ↦ inr (inr (w.0, f.0, p, in_form_shifts w.0 f.0 f.1, f.2))
+    ]
+  ];
 }
   where
+    forbidden_formless : (b : ℕ) → (b ≡ 0x19) ⊎ ((0x80 ≤ b) × (b < 0xa0))
+        → shift_form b ≡ None
+    forbidden_formless b (inl e) = grind (arith, nat_tests)
+    forbidden_formless b (inr h) = grind (arith, nat_tests)
+
+    formless_forbidden : (b : ℕ) → b < 0x100 → shift_form b ≡ None
+        → (b ≡ 0x19) ⊎ ((0x80 ≤ b) × (b < 0xa0))
+    formless_forbidden b h e = elim (cases_lt b 0x80) [
+      | inl g ↦ inl (grind (arith, nat_tests))
+      | inr g ↦ inr (g, grind (arith, nat_tests))
+    ]
+
     as_words : (s t : List ℕ) → (in_form shift_bytes t ≡ Some s) ⊎ Split shift_agrees m s t
         → BeginsShifted t s
     as_words s t (inl e) = inl (in_form_shifts t s e)

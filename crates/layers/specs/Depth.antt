@@ -1,7 +1,6 @@
 -- Causes of a layer, its own and those from below.
-use Rattle.std.specs.Prelude.{ℕ, ◌+◌, min, Ok, Err}
+use Rattle.std.specs.Prelude.{ℕ, ◌+◌, min, Ok, Err, Result}
 use Rattle.charset.specs.declared.SetRefusal.{SetRefusal}
-use Rattle.charset.specs.Answers.{ReadAnswer}
 
 -- a cause of the layer's own has depth 0
 abbrev pub own : ℕ → SetRefusal
@@ -11,7 +10,7 @@ own n = record { cause = n; depth = 0 }
 abbrev pub up : SetRefusal → SetRefusal
 up q = record { cause = q.cause; depth = min 255 (q.depth + 1) }
 
--- the cause from below if reading below refuses, else the layer's own
-abbrev pub over : ReadAnswer → SetRefusal → SetRefusal
+-- the cause from below if reading or writing below refuses, else the layer's own
+abbrev pub over : {X : Type 0} → Result X SetRefusal → SetRefusal → SetRefusal
 over (Ok r) mine = mine
 over (Err q) mine = up q

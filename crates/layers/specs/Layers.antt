@@ -4,7 +4,7 @@ use Rattle.std.specs.Prelude.{List, [], ◌∷◌, Some, None, Option, is_none, 
 use Rattle.std.specs.Prelude.{count_ones, nat_le, nat_lt, slice_index_or}
 use Rattle.std.specs.Option.{option_or}
 use Rattle.charset.specs.Meaning.{Meaning}
-use Rattle.charset.specs.Answers.{reading}
+use Rattle.charset.specs.Answers.{reading, writing}
 use Rattle.layers.specs.declared.recoding.moves.Move.{Move}
 use Rattle.layers.specs.declared.recoding.moves.Move.TheVariants.{Emit, Hold}
 use Rattle.layers.specs.declared.recoding.moves.WrittenByte.{WrittenByte}
@@ -61,6 +61,7 @@ sub ds m = record {
   };
   openings = m.openings;
   causes = λ s. over (reading m s) (refusal NotListed);
+  write_causes = λ c. over (writing m c) (refusal NotListed);
 }
 
 -- Controls: of those that are chosen, each that the set below refuses alone and does not write
@@ -83,4 +84,5 @@ controls chosen m = record {
   };
   openings = m.openings;
   causes = λ s. up (m.causes s);
+  write_causes = λ c. up (m.write_causes c);
 }

@@ -1,11 +1,14 @@
--- What the front of a string stands for below.
-use Rattle.std.specs.Prelude.{◌≡◌, ℕ, false, List, take, Some, None, Option}
+-- What the front of a string stands for below, and a string below as it is written.
+use Rattle.std.specs.Prelude.{◌≡◌, ℕ, false, List, take, Some, None, Option, Ok, Err}
 use Rattle.std.specs.Prelude.{option_and_then, sum_by}
 use Rattle.charset.specs.Strings.{with_byte}
 use Rattle.layers.specs.declared.recoding.moves.WrittenByte.{WrittenByte}
 use Rattle.layers.specs.declared.recoding.moves.WrittenByte.TheVariants.{One, Two}
 use Rattle.layers.specs.declared.recoded.scan.Scan.{Scan}
-use Rattle.layers.specs.Recoding.{Recoding, below, ends, is_broken}
+use Rattle.charset.specs.Answers.{WriteAnswer}
+use Rattle.layers.specs.Depth.{own}
+use Rattle.layers.specs.Recoding.{Recoding, below, ends, is_broken, in_form, at_most_four}
+use Rattle.layers.specs.Recoding.{form_cause}
 
 -- found says what the first four bytes of s stand for below, and whether a byte broke them off
 pub record Scans (r : Recoding) (s : List ℕ) (found : Scan) : Type 0 where
@@ -25,3 +28,13 @@ size_of r t = sum_by (λ b. form_size (r.form b)) t
 abbrev pub extended : List ℕ → WrittenByte → Option (List ℕ)
 extended u (One x) = with_byte u x
 extended u (Two x y) = option_and_then (λ v. with_byte v y) (with_byte u x)
+
+-- the same behind a string that has at most four bytes already
+abbrev pub extended_if : Option (List ℕ) → WrittenByte → Option (List ℕ)
+extended_if o f = option_and_then (λ u. extended u f) o
+
+-- a string below as it is written, if it takes at most four bytes, or why it has no coding
+abbrev pub Recodes : Recoding → List ℕ → WriteAnswer → Type 0
+Recodes r t (Ok s) = at_most_four (in_form r t) ≡ Some s
+Recodes r t (Err q) =
+    (at_most_four (in_form r t) ≡ None) × (q ≡ own (form_cause r (in_form r t)))

@@ -1,12 +1,12 @@
 -- The layers' codings, openings and causes in plain words.
 use Rattle.std.specs.Prelude.{◌≡◌, ℕ, ◌+◌, ◌-◌, ◌%◌, ◌<◌, ◌≤◌, Bool}
 use Rattle.std.specs.Prelude.{true, false, cond, ◌⊎◌, List, [], ◌∷◌, ◌++◌, map}
-use Rattle.std.specs.Prelude.{length, None, Ok, ◌==◌, ◌≢◌, count_ones, slice_index_or}
+use Rattle.std.specs.Prelude.{length, Ok, Err, ◌==◌, ◌≢◌, count_ones, slice_index_or}
 use Rattle.std.specs.List.{AllByRecursion}
 use Rattle.charset.specs.declared.Reading.TheVariants.{Found}
-use Rattle.charset.specs.Answers.{Reads}
+use Rattle.charset.specs.Answers.{Reads, Writes}
 use Rattle.charset.specs.Strings.{AreBytes}
-use Rattle.charset.specs.Meaning.{Meaning, Codes, IsOpening, Unreadable}
+use Rattle.charset.specs.Meaning.{Meaning, Codes, IsOpening, Unreadable, HasNoCoding}
 use Rattle.layers.specs.declared.cause.Cause.TheVariants.{OddParity, NotShifted, TooLong, NotListed}
 use Rattle.layers.specs.Causes.{refusal}
 use Rattle.layers.specs.Depth.{up}
@@ -71,6 +71,26 @@ abbrev pub FailsAt : Meaning → (List ℕ → ℕ → Type 0) → List ℕ → 
 FailsAt m Fault s =
     (p rest : List ℕ) × (x : ℕ) × (s ≡ p ++ x ∷ rest) × IsOpening m p × Fault p x
 
+-- c has a coding below, with a byte of which Fault holds
+abbrev pub HasByte : (Fault : ℕ → Type 0) → Meaning → ℕ → Type 0
+HasByte Fault m c =
+    (p rest : List ℕ) × (b : ℕ) × Codes m (p ++ b ∷ rest) c × Fault b
+
+-- a byte that parity cannot write, and one that shift cannot
+abbrev pub IsEightBit : ℕ → Type 0
+IsEightBit b = 0x80 ≤ b
+
+abbrev pub IsForbidden : ℕ → Type 0
+IsForbidden b = (b ≡ 0x19) ⊎ ((0x80 ≤ b) × (b < 0xa0))
+
+-- c has a coding below that is over four bytes once it is shifted
+abbrev pub ShiftsTooLong : Meaning → ℕ → Type 0
+ShiftsTooLong m c = (t s : List ℕ) × Codes m t c × Shifts t s × (4 < length s)
+
+-- c has a coding below, but is not on the list
+abbrev pub IsUnlisted : List ℕ → Meaning → ℕ → Type 0
+IsUnlisted ds m c = (s : List ℕ) × Codes m s c × (on_list ds c ≡ false)
+
 -- what the parity of a set means
 pub record ParityMeaning (m : Meaning) : Type 0 where
   pub codes : (s : List ℕ) (c : ℕ) → Codes (parity m) s c
@@ -88,6 +108,14 @@ pub record ParityMeaning (m : Meaning) : Type 0 where
   -- there is no other cause
   pub causes_only : (s : List ℕ) → AreBytes s → Unreadable (parity m) s
       → FailsAt (parity m) (λ p x. HasOddParity x ⊎ FailsBelow m InParity p x) s
+  -- a character that cannot be written below, and one whose coding there has a byte from 80 up
+  pub unwritten_below : (c : ℕ) → HasNoCoding m c
+      → Writes (parity m) c (Err (up (m.write_causes c)))
+  pub eight_bits : (c : ℕ) → HasByte IsEightBit m c
+      → Writes (parity m) c (Err (refusal OddParity))
+  -- there is no other cause of writing
+  pub write_causes_only : (c : ℕ) → HasNoCoding (parity m) c
+      → HasNoCoding m c ⊎ HasByte IsEightBit m c
 
 -- what the shift of a set means
 pub record ShiftMeaning (m : Meaning) : Type 0 where
@@ -112,6 +140,17 @@ pub record ShiftMeaning (m : Meaning) : Type 0 where
   pub causes_only : (s : List ℕ) → Unreadable (shift m) s
       → FailsAt (shift m)
       (λ p x. CannotFollow p x ⊎ (OpenAtFour m p x ⊎ FailsBelow m Shifts p x)) s
+  -- a character that cannot be written below, one whose coding there has a forbidden byte, and one
+  -- whose coding is too long
+  pub unwritten_below : (c : ℕ) → HasNoCoding m c
+      → Writes (shift m) c (Err (up (m.write_causes c)))
+  pub forbidden_byte : (c : ℕ) → HasByte IsForbidden m c
+      → Writes (shift m) c (Err (refusal NotShifted))
+  pub shifts_too_long : (c : ℕ) → ShiftsTooLong m c
+      → Writes (shift m) c (Err (refusal TooLong))
+  -- there is no other cause of writing
+  pub write_causes_only : (c : ℕ) → HasNoCoding (shift m) c
+      → HasNoCoding m c ⊎ (HasByte IsForbidden m c ⊎ ShiftsTooLong m c)
 
 -- what the subrepertoire of a set by a list means
 pub record SubMeaning (ds : List ℕ) (m : Meaning) : Type 0 where
@@ -127,13 +166,20 @@ pub record SubMeaning (ds : List ℕ) (m : Meaning) : Type 0 where
   -- there is no other cause
   pub causes_only : (s : List ℕ) → Unreadable (sub ds m) s
       → Unreadable m s ⊎ FindsUnlisted ds m s
+  -- a character that cannot be written below, listed or not, and one off the list that can
+  pub unwritten_below : (c : ℕ) → HasNoCoding m c
+      → Writes (sub ds m) c (Err (up (m.write_causes c)))
+  pub unlisted : (c : ℕ) → IsUnlisted ds m c → Writes (sub ds m) c (Err (refusal NotListed))
+  -- there is no other cause of writing
+  pub write_causes_only : (c : ℕ) → HasNoCoding (sub ds m) c
+      → HasNoCoding m c ⊎ IsUnlisted ds m c
 
--- c is chosen, reading it alone below gives a cause, and writing it below gives none
+-- c is chosen, and below both reading it alone and writing it give a cause
 pub record Added (chosen : List Bool) (m : Meaning) (c : ℕ) : Type 0 where
   pub control : c < 0x20
   pub choice : slice_index_or chosen c false ≡ true
   pub unread : Unreadable m (c ∷ [])
-  pub unwritten : m.codings.string c ≡ None
+  pub unwritten : HasNoCoding m c
 
 -- what a set with the chosen controls means
 pub record ControlsMeaning (chosen : List Bool) (m : Meaning) : Type 0 where
@@ -146,3 +192,9 @@ pub record ControlsMeaning (chosen : List Bool) (m : Meaning) : Type 0 where
   pub cause_below : (s : List ℕ) → (controls chosen m).causes s ≡ up (m.causes s)
   -- what is refused here is refused below
   pub causes_only : (s : List ℕ) → Unreadable (controls chosen m) s → Unreadable m s
+  -- a character that cannot be written below and is not added has the cause from below
+  pub unwritten_below : (c : ℕ) → HasNoCoding m c → (Added chosen m c → ⊥)
+      → Writes (controls chosen m) c (Err (up (m.write_causes c)))
+  -- no other character has a cause of writing
+  pub write_causes_only : (c : ℕ) → HasNoCoding (controls chosen m) c
+      → HasNoCoding m c × (Added chosen m c → ⊥)

@@ -36,7 +36,7 @@ impl<S: CharacterSet> Controls<S> {
         byte < 0x20
             && self.chosen[usize::from(byte)]
             && self.is_refused_below(byte)
-            && self.below.write(u32::from(byte)).is_none()
+            && self.below.write(u32::from(byte)).is_err()
     }
 }
 
@@ -46,6 +46,8 @@ impl<S: CharacterSet> CharacterSet for Controls<S> {
     ghost openings = { λ p. (meaning_of_controls S.CharacterSet p).openings };
 
     ghost causes = { λ p. (meaning_of_controls S.CharacterSet p).causes };
+
+    ghost write_causes = { λ p. (meaning_of_controls S.CharacterSet p).write_causes };
 
     ghost lawful = { λ p. controls_laws p.chosen (S.lawful p.below) };
 
@@ -59,10 +61,10 @@ impl<S: CharacterSet> CharacterSet for Controls<S> {
         }
     }
 
-    fn write(&self, number: u32) -> Option<Coding> {
+    fn write(&self, number: u32) -> Result<Coding, SetRefusal> {
         match u8::try_from(number) {
-            Ok(byte) if self.adds(byte) => Some(Coding::new(byte)),
-            _ => self.below.write(number),
+            Ok(byte) if self.adds(byte) => Ok(Coding::new(byte)),
+            _ => self.below.write(number).map_err(from_below),
         }
     }
 }

@@ -188,5 +188,5 @@ fn first_uncoded<S: CharacterSet>(numbers: &[u32], set: &S) -> Option<u32>
     numbers
         .iter()
         .copied()
-        .find(|number| set.write(*number).is_none())
+        .find(|number| set.write(*number).is_err())
 }

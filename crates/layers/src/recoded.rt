@@ -1,8 +1,7 @@
 //! A set under another form of its bytes.
 ghost use Rattle.std.specs.Prelude.{◌≡◌, ◌≤◌, length};
 ghost use Rattle.layers.specs.Meanings.{meaning_of_recoded};
-ghost use Rattle.layers.specs.Recoding.{at_most_four, in_form};
-ghost use Rattle.layers.specs.Scans.{Scans, form_size, size_of, extended};
+ghost use Rattle.layers.specs.Scans.{Scans, form_size, size_of, extended_if, Recodes};
 ghost use Rattle.layers.specs.Laws.Recode.{recoded_laws};
 
 use crate::cause::Cause;
@@ -19,7 +18,9 @@ const LONGEST_CODING: usize = 4;
 
 /// A set whose bytes are written in another form. A coding below that has a byte with no form, or
 /// takes more than four bytes, has no coding here. A byte that cannot stand where it does is
-/// refused by the form's fault, and a string still open after four bytes with 36.
+/// refused by the form's fault, and a string still open after four bytes with 36. A character is
+/// not written by the form's fault where a byte of its coding below has no form, and by 36 where
+/// its coding takes more than four bytes.
 #[derive(Clone, Copy)]
 pub struct Recoded<F, S> {
     /// How each byte of the set below is written.
@@ -72,25 +73,27 @@ fn written_size<F: ByteForm>(form: &F, string: &[u8]) -> usize
     string.iter().map(|byte| form_size(form.form(*byte))).sum()
 }
 
-// A byte below behind, as it is written here.
-fn append(front: Front, form: WrittenByte) -> Option<Front>
-    ensures { result ≡ extended front form }
+// A byte below behind, as it is written here; `None` where these are more than four bytes.
+fn append(front: Option<Front>, form: WrittenByte) -> Option<Front>
+    ensures { result ≡ extended_if front form }
 {
     match form {
-        WrittenByte::One(byte) => front.then(byte),
-        WrittenByte::Two(first, second) => front.then(first)?.then(second),
+        WrittenByte::One(byte) => front?.then(byte),
+        WrittenByte::Two(first, second) => front?.then(first)?.then(second),
     }
 }
 
-// The bytes below as they are written here, if they take at most four.
-fn recode<F: ByteForm>(form: &F, bytes: &[u8]) -> Option<Front>
-    ensures { result ≡ at_most_four (in_form (F.recoding form.now) bytes.now) }
+// The bytes below as they are written here. Refused where one of them cannot be written, and else
+// where they take more than four.
+fn recode<F: ByteForm>(form: &F, bytes: &[u8]) -> Result<Front, SetRefusal>
+    ensures { Recodes (F.recoding form.now) bytes.now result }
 {
-    let mut written = Front::empty();
+    let mut front = Some(Front::empty());
     for byte in bytes {
-        written = append(written, form.form(*byte)?)?;
+        let written = form.form(*byte).ok_or(form.fault())?;
+        front = append(front, written);
     }
-    Some(written)
+    Ok(front.ok_or(Cause::TooLong)?)
 }
 
 impl<F: ByteForm, S: CharacterSet> CharacterSet for Recoded<F, S> {
@@ -99,6 +102,8 @@ impl<F: ByteForm, S: CharacterSet> CharacterSet for Recoded<F, S> {
     ghost openings = { λ p. (meaning_of_recoded S.CharacterSet F.ByteForm p).openings };
 
     ghost causes = { λ p. (meaning_of_recoded S.CharacterSet F.ByteForm p).causes };
+
+    ghost write_causes = { λ p. (meaning_of_recoded S.CharacterSet F.ByteForm p).write_causes };
 
     ghost lawful = { λ p. recoded_laws _ _ (F.agrees p.form) (S.lawful p.below) };
 
@@ -116,8 +121,12 @@ impl<F: ByteForm, S: CharacterSet> CharacterSet for Recoded<F, S> {
         }
     }
 
-    fn write(&self, number: u32) -> Option<Coding> {
-        let below = self.below.write(number)?;
-        Coding::of(recode(&self.form, below.as_bytes())?)
+    fn write(&self, number: u32) -> Result<Coding, SetRefusal> {
+        let below = self.below.write(number).map_err(from_below)?;
+        let front = recode(&self.form, below.as_bytes())?;
+        let Some(coding) = Coding::of(front) else {
+            unreachable!()
+        };
+        Ok(coding)
     }
 }

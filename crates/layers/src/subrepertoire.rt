@@ -8,7 +8,7 @@ use crate::list::CharacterList;
 use charset::{CharacterSet, Coding, Reading, SetRefusal};
 
 /// The characters of a set that stand on a list, with the codings and openings of that set. Another
-/// character in front is refused with 37.
+/// character in front is refused with 37, and is not written by 37.
 #[derive(Drop)]
 pub struct Subrepertoire<S> {
     /// The characters that are kept.
@@ -24,6 +24,8 @@ impl<S: CharacterSet> CharacterSet for Subrepertoire<S> {
 
     ghost causes = { λ p. (meaning_of_subrepertoire S.CharacterSet p).causes };
 
+    ghost write_causes = { λ p. (meaning_of_subrepertoire S.CharacterSet p).write_causes };
+
     ghost lawful = { λ p. sub_laws p.list (S.lawful p.below) };
 
     fn read(&self, bytes: &[u8]) -> Result<Reading, SetRefusal> {
@@ -35,11 +37,11 @@ impl<S: CharacterSet> CharacterSet for Subrepertoire<S> {
         }
     }
 
-    fn write(&self, number: u32) -> Option<Coding> {
-        if self.list.contains(number) {
-            self.below.write(number)
-        } else {
-            None
+    fn write(&self, number: u32) -> Result<Coding, SetRefusal> {
+        let coding = self.below.write(number).map_err(from_below)?;
+        if !self.list.contains(number) {
+            return Err(Cause::NotListed.into());
         }
+        Ok(coding)
     }
 }

@@ -1,11 +1,11 @@
-//! Why a set of this crate cannot read a string.
+//! Why a set of this crate cannot read a string or write a character.
 ghost use Rattle.std.specs.Prelude.{◌≡◌};
 ghost use Rattle.sets.specs.Causes.{refusal};
 
 use charset::SetRefusal;
 
-/// Why a set of this crate cannot read a string, by the number that its [`SetRefusal`] holds. The
-/// depth is 0.
+/// Why a set of this crate cannot read a string or write a character, by the number that its
+/// [`SetRefusal`] holds. The depth is 0.
 #[derive(Clone, Copy, PartialEq, Eq, Debug)]
 pub enum Cause {
     /// ISO/IEC 6937 and the single-byte sets: the first byte is no position in use.
@@ -14,6 +14,8 @@ pub enum Cause {
     NoPair = 32,
     /// UTF-8: the bytes begin no character (RFC 3629, section 4).
     Malformed = 33,
+    /// Writing, in each of them: the set has no coding for the character.
+    NoCoding = 38,
 }
 
 impl From<Cause> for SetRefusal {

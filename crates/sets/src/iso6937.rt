@@ -1,5 +1,8 @@
 //! ISO/IEC 6937:1994 in its 8-bit form.
+ghost use Rattle.std.specs.Prelude.{◌≡◌};
+ghost use Rattle.sets.specs.Causes.{no_coding};
 ghost use Rattle.sets.specs.Iso6937.{iso6937_codings, iso6937_openings, iso6937_causes};
+ghost use Rattle.sets.specs.Iso6937.{iso6937_string};
 ghost use Rattle.sets.specs.Laws.Iso6937.{iso6937_laws};
 
 mod table;
@@ -11,9 +14,21 @@ use table::{accented, letters_of, pair_of, single, single_byte};
 
 /// ISO/IEC 6937:1994 in its 8-bit form, by Table 4: a character is one byte, or a diacritic and the
 /// letter under it. The thirteen diacritics are openings. A byte that is no position in use is
-/// refused with 31, and a diacritic before a byte with which it makes no pair with 32.
+/// refused with 31, and a diacritic before a byte with which it makes no pair with 32. A character
+/// without a coding is not written, by 38.
 #[derive(Clone, Copy)]
 pub struct Iso6937;
+
+// The coding of a character; `None` if it has none.
+fn coding_of(number: u32) -> Option<Coding>
+    ensures { result ≡ iso6937_string number }
+{
+    if let Some(byte) = single_byte(number) {
+        return Some(Coding::new(byte));
+    }
+    let (mark, letter) = pair_of(number)?;
+    Coding::new(mark).then(letter)
+}
 
 impl CharacterSet for Iso6937 {
     ghost codings = { λ _. iso6937_codings };
@@ -21,6 +36,8 @@ impl CharacterSet for Iso6937 {
     ghost openings = { λ _. iso6937_openings };
 
     ghost causes = { λ _. iso6937_causes };
+
+    ghost write_causes = { λ _. no_coding };
 
     ghost lawful = { λ s. iso6937_laws };
 
@@ -39,11 +56,7 @@ impl CharacterSet for Iso6937 {
         found(character, 2)
     }
 
-    fn write(&self, number: u32) -> Option<Coding> {
-        if let Some(byte) = single_byte(number) {
-            return Some(Coding::new(byte));
-        }
-        let (mark, letter) = pair_of(number)?;
-        Coding::new(mark).then(letter)
+    fn write(&self, number: u32) -> Result<Coding, SetRefusal> {
+        Ok(coding_of(number).ok_or(Cause::NoCoding)?)
     }
 }

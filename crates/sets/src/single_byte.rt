@@ -1,5 +1,6 @@
 //! The single-byte sets: ASCII in the lower half, and a table of their own in the upper.
 ghost use Rattle.std.specs.Prelude.{◌≡◌, true};
+ghost use Rattle.sets.specs.Causes.{no_coding};
 ghost use Rattle.sets.specs.Columns.{one_to_one};
 ghost use Rattle.sets.specs.SingleByte.{single_byte_codings, single_byte_openings};
 ghost use Rattle.sets.specs.SingleByte.{single_byte_causes};
@@ -34,7 +35,8 @@ const SAMI: CodeTable = CodeTable { columns: [
 ] };
 
 /// A set of single bytes by its code table, in which no character stands twice. 00 to 1F and 7F to
-/// 9F, as every byte whose position is not in use, are refused with 31.
+/// 9F, as every byte whose position is not in use, are refused with 31. A character without a
+/// coding is not written, by 38.
 #[derive(Clone, Copy)]
 pub struct SingleByte {
     table: CodeTable,
@@ -64,6 +66,8 @@ impl CharacterSet for SingleByte {
 
     ghost causes = { λ _. single_byte_causes };
 
+    ghost write_causes = { λ _. no_coding };
+
     ghost lawful = { λ s. single_byte_laws s.table.columns s.unambiguous };
 
     fn read(&self, bytes: &[u8]) -> Result<Reading, SetRefusal> {
@@ -74,7 +78,8 @@ impl CharacterSet for SingleByte {
         found(character, 1)
     }
 
-    fn write(&self, number: u32) -> Option<Coding> {
-        self.table.byte_of(number).map(Coding::new)
+    fn write(&self, number: u32) -> Result<Coding, SetRefusal> {
+        let byte = self.table.byte_of(number).ok_or(Cause::NoCoding)?;
+        Ok(Coding::new(byte))
     }
 }

@@ -2,8 +2,9 @@
 ghost use Rattle.std.specs.Prelude.{◌≡◌, ◌+◌, ◌-◌, ◌*◌, ◌^◌, ◌<◌};
 ghost use Rattle.std.specs.Prelude.{◌≤◌};
 ghost use Rattle.charset.specs.Answers.{Reads};
+ghost use Rattle.sets.specs.Causes.{no_coding};
 ghost use Rattle.sets.specs.Utf8.{utf8, OpeningsBeginCodings, utf8_codings, utf8_openings};
-ghost use Rattle.sets.specs.Utf8.{utf8_causes, lead, second, tail, low_bits};
+ghost use Rattle.sets.specs.Utf8.{utf8_causes, utf8_string, lead, second, tail, low_bits};
 ghost use Rattle.sets.specs.Laws.Utf8.{utf8_laws};
 
 use crate::cause::Cause;
@@ -12,7 +13,8 @@ use charset::{CharacterSet, Coding, Reading, SetRefusal};
 
 /// UTF-8, by RFC 3629: one to four octets, no overlong forms, no surrogates, nothing above
 /// U+10FFFF. The openings are the proper beginnings of codings. All else is refused with 33, at the
-/// shortest beginning from which no coding can come about.
+/// shortest beginning from which no coding can come about. A surrogate, or a number above U+10FFFF,
+/// is not written, by 38.
 #[derive(Clone, Copy)]
 pub struct Utf8;
 
@@ -80,6 +82,24 @@ fn low_bits(n: u32) -> u8
     (0x80 + n % 64) as u8
 }
 
+// The coding of a character, by the table of section 3; `None` if it has none.
+fn coding_of(number: u32) -> Option<Coding>
+    ensures { result ≡ utf8_string number }
+{
+    match number {
+        0..=0x7F => Some(Coding::new(number as u8)),
+        0x80..=0x7FF => Coding::new((0xC0 + number / 64) as u8).then(low_bits(number)),
+        0x800..=0xD7FF | 0xE000..=0xFFFF => Coding::new((0xE0 + number / 4096) as u8)
+            .then(low_bits(number / 64))?
+            .then(low_bits(number)),
+        0x1_0000..=0x10_FFFF => Coding::new((0xF0 + number / 262144) as u8)
+            .then(low_bits(number / 4096))?
+            .then(low_bits(number / 64))?
+            .then(low_bits(number)),
+        _ => None,
+    }
+}
+
 impl CharacterSet for Utf8 {
     ghost codings = { λ _. utf8_codings };
 
@@ -87,25 +107,16 @@ impl CharacterSet for Utf8 {
 
     ghost causes = { λ _. utf8_causes };
 
+    ghost write_causes = { λ _. no_coding };
+
     ghost lawful = { λ s. utf8_laws };
 
     fn read(&self, bytes: &[u8]) -> Result<Reading, SetRefusal> {
         front(bytes)
     }
 
-    fn write(&self, number: u32) -> Option<Coding> {
-        match number {
-            0..=0x7F => Some(Coding::new(number as u8)),
-            0x80..=0x7FF => Coding::new((0xC0 + number / 64) as u8).then(low_bits(number)),
-            0x800..=0xD7FF | 0xE000..=0xFFFF => Coding::new((0xE0 + number / 4096) as u8)
-                .then(low_bits(number / 64))?
-                .then(low_bits(number)),
-            0x1_0000..=0x10_FFFF => Coding::new((0xF0 + number / 262144) as u8)
-                .then(low_bits(number / 4096))?
-                .then(low_bits(number / 64))?
-                .then(low_bits(number)),
-            _ => None,
-        }
+    fn write(&self, number: u32) -> Result<Coding, SetRefusal> {
+        Ok(coding_of(number).ok_or(Cause::NoCoding)?)
     }
 }
 

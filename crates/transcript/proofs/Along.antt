@@ -75,6 +75,6 @@ module _ {S : Meaning} (T : Meaning) (l : Laws S) where
   pub ends_on : (f : Fault) (rest more : List ℕ) (used room : ℕ)
       → Stops S T rest used room (Err f) → Ends S T (rest ++ more) (Some f)
   ends_on (Unread q) rest more used room h = reads_on l rest more (Err q) (λ e. cc) h
-  ends_on (Unwritten c) rest more used room h =
+  ends_on (Unwritten c q) rest more used room h =
       (h.0, reads_on l rest more (Ok (Found c h.0)) (λ e. cc) h.1, h.2)
   ends_on Unfinished rest more used room h = absurd h

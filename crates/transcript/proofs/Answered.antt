@@ -38,7 +38,7 @@ module _ (S T : Meaning) (l : Laws S) where
 
       by_coding : (c n : ℕ) → Reads S rest (Ok (reading.Found c n)) → (o : Option (List ℕ))
           → T.codings.string c ≡ o → Reached input room ⊎ Further input room (length rest)
-      by_coding c n r None e = stopped (Err (Unwritten c)) (n, r, e)
+      by_coding c n r None e = stopped (Err (Unwritten c (T.write_causes c))) (n, r, (e, refl))
       by_coding c n r (Some v) e = elim (cases_lt room (length target + length v)) [
         | inl g ↦ stopped (Ok Full) (c, n, v, r, e, g)
         | inr g ↦ inr (

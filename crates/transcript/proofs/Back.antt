@@ -72,8 +72,8 @@ module _ (S T : Meaning) (l : Laws S) where
       → Spells T es e → Stops S T rest used room k → Harmless k
   harmless (Ok pause.Open) es e rest more used room p q h = tt
   harmless (Ok pause.Full) es e rest more used room p q h = tt
-  harmless (Err (Unwritten c)) es e rest more used room p q h =
-      no_char es e rest more c h.0 p q h.1 h.2
+  harmless (Err (Unwritten c x)) es e rest more used room p q h =
+      no_char es e rest more c h.0 p q h.1 h.2.0
   harmless (Err (Unread x)) es e rest more used room p q h = no_bad es rest more x p h
   harmless (Err Unfinished) es e rest more used room p q h = h
 

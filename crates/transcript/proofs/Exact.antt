@@ -20,11 +20,16 @@ use Rattle.transcript.proofs.Keeping.{answer_took, source_longer, taken_part, st
 
 -- the end that a number tells of
 at_seven : (k : End) (o n w : ℕ) → (told_of (answers k o n w)).number ≡ 7
-    → k ≡ Err (Unwritten (told_of (answers k o n w)).character)
+    → k ≡ Err (Unwritten (told_of (answers k o n w)).character
+    (record {
+      cause = (told_of (answers k o n w)).cause;
+      depth =
+          (told_of (answers k o n w)).depth;
+    }))
 at_seven (Ok pause.Open) o n w e = cc
 at_seven (Ok pause.Full) o n w e = cc
 at_seven (Err (Unread q)) o n w e = cc
-at_seven (Err (Unwritten c)) o n w e = refl
+at_seven (Err (Unwritten c q)) o n w e = refl
 at_seven (Err Unfinished) o n w e = cc
 
 at_six : (k : End) (o n w : ℕ) → (told_of (answers k o n w)).number ≡ 6
@@ -37,7 +42,7 @@ at_six : (k : End) (o n w : ℕ) → (told_of (answers k o n w)).number ≡ 6
 at_six (Ok pause.Open) o n w e = cc
 at_six (Ok pause.Full) o n w e = cc
 at_six (Err (Unread q)) o n w e = refl
-at_six (Err (Unwritten c)) o n w e = cc
+at_six (Err (Unwritten c q)) o n w e = cc
 at_six (Err Unfinished) o n w e = cc
 
 at_eight : (k : End) (o n w : ℕ) → (told_of (answers k o n w)).number ≡ 8
@@ -45,7 +50,7 @@ at_eight : (k : End) (o n w : ℕ) → (told_of (answers k o n w)).number ≡ 8
 at_eight (Ok pause.Open) o n w e = cc
 at_eight (Ok pause.Full) o n w e = refl
 at_eight (Err (Unread q)) o n w e = cc
-at_eight (Err (Unwritten c)) o n w e = cc
+at_eight (Err (Unwritten c q)) o n w e = cc
 at_eight (Err Unfinished) o n w e = cc
 
 unless_none : (chars held : List ℕ) → chars ≡ [] → unless_any chars held ≡ held
@@ -66,7 +71,7 @@ module _ (S T : Meaning) (l : Laws S) where
   takes_all (Ok pause.Open) o n w used room held sector source rest st a b c = (refl, refl)
   takes_all (Ok pause.Full) o n w used room held sector source rest st a b c = absurd (c refl)
   takes_all (Err (Unread q)) o n w used room held sector source rest st a b c = absurd (a refl)
-  takes_all (Err (Unwritten x)) o n w used room held sector source rest st a b c = absurd (b refl)
+  takes_all (Err (Unwritten x q)) o n w used room held sector source rest st a b c = absurd (b refl)
   takes_all (Err Unfinished) o n w used room held sector source rest st a b c = absurd st
 
   -- an offer at which characters lead to an end
@@ -135,9 +140,9 @@ module _ (S T : Meaning) (l : Laws S) where
     by_end (Err (Unread x)) chars source target h a w p q =
         stops_at (Err (Unread x)) chars source target h.rest (length out) h.leads (ap took a)
         (ap wrote a) w q (rw a (refl, refl, refl, refl)) (_, refl, a, p)
-    by_end (Err (Unwritten c)) chars source target h a w p q =
-        stops_at (Err (Unwritten c)) chars source target h.rest (length out) h.leads (ap took a)
-        (ap wrote a) w q (rw a (refl, refl, refl)) (_, refl, a, p)
+    by_end (Err (Unwritten c x)) chars source target h a w p q =
+        stops_at (Err (Unwritten c x)) chars source target h.rest (length out) h.leads (ap took a)
+        (ap wrote a) w q (rw a (refl, refl, refl, refl, refl)) (_, refl, a, p)
     by_end (Err Unfinished) chars source target h a w p q = absurd h.stops
 
     -- the end and the characters are the only ones

@@ -77,8 +77,9 @@ TellsOf (Ok pause.Full) offset values = values.number ≡ 8
 TellsOf (Err (Unread q)) offset values =
     (values.number ≡ 6) × (values.cause ≡ q.cause) × (values.depth ≡ q.depth)
     × (values.offset ≡ offset)
-TellsOf (Err (Unwritten c)) offset values =
-    (values.number ≡ 7) × (values.character ≡ c) × (values.offset ≡ offset)
+TellsOf (Err (Unwritten c q)) offset values =
+    (values.number ≡ 7) × (values.character ≡ c) × (values.cause ≡ q.cause)
+    × (values.depth ≡ q.depth) × (values.offset ≡ offset)
 TellsOf (Err Unfinished) offset values = ⊥
 
 -- the state at an end: still open, or faulted by the fault that is answered
@@ -144,7 +145,8 @@ module _ (S T : Meaning) (before : Snapshot) (sector out : List ℕ) (answer : O
   -- coding does not fit; otherwise it succeeds and takes the whole sector
   pub record TellsExactly : Type 0 where
     pub seven : (told_of answer).number ≡ 7 → LeadsTo S T (before.held ++ sector) (length out)
-        (Err (Unwritten (told_of answer).character))
+        (Err (Unwritten (told_of answer).character
+        (record { cause = (told_of answer).cause; depth = (told_of answer).depth })))
     pub six : (told_of answer).number ≡ 6 → LeadsTo S T (before.held ++ sector) (length out)
         (Err (Unread (record { cause = (told_of answer).cause; depth = (told_of answer).depth })))
     pub eight : (told_of answer).number ≡ 8 → LeadsTo S T (before.held ++ sector) (length out)

@@ -33,12 +33,13 @@ with_done t d = record t { taken = d.taken; written = d.written }
 abbrev pub with_fault : Told → (offset : ℕ) → Done → Fault → Told
 with_fault t o d (Unread q) =
     with_done (record t { offset = o; cause = q.cause; depth = q.depth }) d
-with_fault t o d (Unwritten c) = with_done (record t { offset = o; character = c }) d
+with_fault t o d (Unwritten c q) =
+    with_done (record t { offset = o; character = c; cause = q.cause; depth = q.depth }) d
 with_fault t o d Unfinished = record t { offset = o }
 
 abbrev pub fault_number : Fault → ℕ
 fault_number (Unread q) = 6
-fault_number (Unwritten c) = 7
+fault_number (Unwritten c q) = 7
 fault_number Unfinished = 9
 
 -- a fault that is met

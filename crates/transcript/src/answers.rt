@@ -107,7 +107,7 @@ pub struct Told {
     pub number: u8,
     /// The number of the fault that stands.
     pub standing: u8,
-    /// Why a string cannot be read, 31 to 37.
+    /// Why a string cannot be read, 31 to 37, or a character not written, 34 to 38.
     pub cause: u8,
     /// How many layers lie above the set or layer that says so, up to 255.
     pub depth: u8,
@@ -165,8 +165,13 @@ impl From<FaultAt> for Told {
                 written,
                 ..placed
             },
-            Fault::Unwritten(character) => Told {
+            Fault::Unwritten {
                 character,
+                refusal: SetRefusal { cause, depth },
+            } => Told {
+                character,
+                cause,
+                depth,
                 taken,
                 written,
                 ..placed
@@ -182,7 +187,7 @@ pub fn fault_number(fault: Fault) -> u8
 {
     match fault {
         Fault::Unread(_) => 6,
-        Fault::Unwritten(_) => 7,
+        Fault::Unwritten { .. } => 7,
         Fault::Unfinished => 9,
     }
 }

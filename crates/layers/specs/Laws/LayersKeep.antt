@@ -2,14 +2,16 @@
 use Rattle.std.specs.Prelude.{◌≡◌, ℕ, ◌+◌, ◌*◌, ◌%◌, ◌^◌, ◌<◌, Bool}
 use Rattle.std.specs.Prelude.{true, false, cond, ◌⊎◌, List, [], ◌∷◌, length, take, Some}
 use Rattle.std.specs.Prelude.{None, Ok, Err, Option, is_err, refl}
-use Rattle.std.proofs.Common.{ap, ◌∙◌, inl, inr, arith, lit<, lit≤}
+use Rattle.std.proofs.Common.{sym, ap, ◌∙◌, inl, inr, arith, lit<, lit≤}
+use Rattle.std.proofs.lemmas.Option.{none-some}
 use Rattle.std.specs.Int.Count.{ones}
 use Rattle.std.specs.Option.{option_or}
 use Rattle.std.proofs.lemmas.Nat.{ones_cat}
 use Rattle.std.proofs.lemmas.Bool.{cases_lt, both_ways, and_parts, ltb-true}
 use Rattle.std.proofs.lemmas.Bool.Decides.{nat_tests}
 use Rattle.charset.specs.declared.Reading.TheVariants.{Found, Open}
-use Rattle.charset.specs.Meaning.{Meaning, Codes, IsOpening, NoFront, Unreadable, Laws}
+use Rattle.charset.specs.Meaning.{Meaning, Codes, IsOpening, NoFront, Unreadable, HasNoCoding}
+use Rattle.charset.specs.Meaning.{Laws}
 use Rattle.charset.specs.Answers.{ReadAnswer, Reads, reading}
 use Rattle.layers.specs.declared.recoding.moves.Move.TheVariants.{Emit}
 use Rattle.layers.specs.declared.recoding.moves.WrittenByte.TheVariants.{One}
@@ -19,7 +21,7 @@ use Rattle.layers.specs.Layers.{parity_step, parity_form, parity_bytes, parity, 
 use Rattle.layers.specs.Layers.{kept, sub, added, control, controls}
 use Rattle.charset.proofs.FrontLemmas.{reading_reads, reading_is, alone, no_value, answer_grows}
 use Rattle.layers.specs.Recoding.{Agrees}
-use Rattle.layers.specs.Laws.Recode.{recoded_laws, over_small}
+use Rattle.layers.specs.Laws.Recode.{recoded_laws, over_small, over_written_small, up_small}
 
 pub shift_agrees : Agrees shift_bytes
 shift_agrees = record {
@@ -128,6 +130,7 @@ module _ (ds : List ℕ) {m : Meaning} (l : Laws m) where
         let f = reading_reads l (take n s) in
         ap (λ z. over z (own 37))
         (reading_is l s r (answer_grows l s n r (λ e. both_ways _ h.1 (rw e at f)) f));
+    write_cause_sized = λ c h. over_written_small l c (own 37) (lit< tt, lit< tt);
   }
     where
       go : (c : ℕ) (s : List ℕ) (b : Bool) → on_list ds c ≡ b
@@ -178,6 +181,13 @@ module _ (cs : List Bool) {m : Meaning} (l : Laws m) where
   pub bad_below : (s : List ℕ) → Unreadable (controls cs m) s → Unreadable m s
   bad_below s h = (λ n c p. h.0 n c (from_below (take n s) c p), h.1)
 
+  pub unwritten_below : (c : ℕ) → HasNoCoding (controls cs m) c → HasNoCoding m c
+  unwritten_below c h = go (added cs m c) h
+    where
+      go : (b : Bool) → cond b (Some (c ∷ [])) (m.codings.string c) ≡ None → HasNoCoding m c
+      go true e = absurd (none-some _ (sym e))
+      go false e = e
+
   pub new : (c : ℕ) → added cs m c ≡ true → Codes (controls cs m) (c ∷ []) c
   new c h = go (m.codings.character (c ∷ [])) refl
     where
@@ -223,6 +233,7 @@ module _ (cs : List Bool) {m : Meaning} (l : Laws m) where
     opening_bare = open_bare;
     cause_sized = λ s h. ((l.cause_sized s (bad_below s h)).0, omega arith);
     cause_stays = λ s n h. ap up (l.cause_stays s n (bad_below (take n s) h));
+    write_cause_sized = λ c h. up_small l c (unwritten_below c h);
   }
     where
       written' : (c : ℕ) (s : List ℕ) (b : Bool) → added cs m c ≡ b

@@ -10,16 +10,16 @@ use Rattle.charset.specs.declared.SetRefusal.{SetRefusal}
 use Rattle.charset.specs.declared.Reading.TheVariants.{Found, Open}
 use Rattle.charset.specs.Strings.{AreBytes}
 use Rattle.charset.specs.Meaning.{Meaning, Codes, IsOpening, NoFront, Unreadable}
-use Rattle.charset.specs.Meaning.{IsTwoBytes, Laws}
-use Rattle.charset.specs.Answers.{ReadAnswer, Reads, reading}
+use Rattle.charset.specs.Meaning.{HasNoCoding, IsTwoBytes, Laws}
+use Rattle.charset.specs.Answers.{ReadAnswer, Reads, reading, coded_or, writing}
 use Rattle.layers.specs.declared.recoding.moves.Move.{Move}
 use Rattle.layers.specs.declared.recoding.moves.Move.TheVariants.{Emit, Hold}
 use Rattle.layers.specs.declared.recoding.moves.WrittenByte.{WrittenByte}
 use Rattle.layers.specs.declared.recoding.moves.WrittenByte.TheVariants.{One, Two}
-use Rattle.layers.specs.Depth.{over}
+use Rattle.layers.specs.Depth.{own, up, over}
 use Rattle.layers.specs.Recoding.{End, clean, pending, broken, Recoding, put, stop, below, ends}
 use Rattle.layers.specs.Recoding.{before, in_form, is_clean, is_broken, at_most_four, coding_of}
-use Rattle.layers.specs.Recoding.{scan_cause, recoded, Agrees}
+use Rattle.layers.specs.Recoding.{scan_cause, form_cause, write_cause, recoded, Agrees}
 use Rattle.charset.proofs.FrontLemmas.{reading_reads, reading_is, reading_bad, answer_grows, alone}
 
 pub over_small : {m : Meaning} → Laws m → (t : List ℕ) (q : SetRefusal) → q.cause < 256
@@ -30,6 +30,20 @@ over_small {m} l t q h k = go (reading m t) (reading_reads l t)
     go (Ok (Found c n)) e = (h, k)
     go (Ok Open) e = (h, k)
     go (Err x) e = rw e.1 ((l.cause_sized t e.0).0, omega arith)
+
+-- the cause of a character one layer up is two bytes, and so is one from below or the layer's own
+pub up_small : {m : Meaning} → Laws m → (c : ℕ) → HasNoCoding m c
+    → IsTwoBytes (up (m.write_causes c))
+up_small l c e = ((l.write_cause_sized c e).0, omega arith)
+
+pub over_written_small : {m : Meaning} → Laws m → (c : ℕ) (q : SetRefusal) → IsTwoBytes q
+    → IsTwoBytes (over (writing m c) q)
+over_written_small {m} l c q h = go (m.codings.string c) refl
+  where
+    go : (o : Option (List ℕ)) → m.codings.string c ≡ o
+        → IsTwoBytes (over (coded_or (m.write_causes c) o) q)
+    go None e = up_small l c e
+    go (Some s) e = h
 
 module _ (r : Recoding) where
   -- a beginning stands for a beginning
@@ -326,6 +340,15 @@ module _ (r : Recoding) (m : Meaning) where
         l.opening_bare _ (opens_parts s o).2 (length (below r false (take n s))) c
         (rw (← below_take r s false n) (codes_parts (take n s) c p).2)
 
+    write_small : (c : ℕ) (o : Option (List ℕ)) → m.codings.string c ≡ o
+        → IsTwoBytes (write_cause r (coded_or (m.write_causes c) o))
+    write_small c None e = up_small l c e
+    write_small c (Some t) e = go (in_form r t)
+      where
+        go : (f : Option (List ℕ)) → IsTwoBytes (own (form_cause r f))
+        go None = (a.small_fault, lit< tt)
+        go (Some s) = (lit< tt, lit< tt)
+
     pub recoded_laws : Laws (recoded r m)
     recoded_laws = record {
       written = written';
@@ -351,4 +374,5 @@ module _ (r : Recoding) (m : Meaning) where
             (e ∙ sym (take_all 4 (take n s) (rw (length-take n s) (omega arith))))
         | inr g ↦ ap (scan_cause r m) (sym (take-take 4 n s g))
       ];
+      write_cause_sized = λ c h. write_small c (m.codings.string c) refl;
     }

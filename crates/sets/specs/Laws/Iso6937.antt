@@ -140,4 +140,5 @@ iso6937_laws = record {
   opening_bare = no_front_by iso6937 opening_begins no_coding;
   cause_sized = λ s h. cause_sized s;
   cause_stays = cause_stays;
+  write_cause_sized = λ c h. (omega arith, omega arith);
 }

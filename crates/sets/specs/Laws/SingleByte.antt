@@ -84,4 +84,5 @@ module _ (columns : List (List ℕ)) (ok : one_to_one columns ≡ true) where
     opening_bare = opening_bare;
     cause_sized = λ s h. (omega arith, omega arith);
     cause_stays = λ s n h. refl;
+    write_cause_sized = λ c h. (omega arith, omega arith);
   }

@@ -247,6 +247,7 @@ utf8_laws = record {
   opening_bare = no_front_by utf8 opening_begins no_coding;
   cause_sized = λ s h. (omega arith, omega arith);
   cause_stays = λ s n h. refl;
+  write_cause_sized = λ c h. (omega arith, omega arith);
 }
 
 -- an opening goes on with the least octets that may follow
