@@ -5,6 +5,7 @@ pub mod Snapshots
 pub mod Uses
 pub mod Called
 pub mod Law
+pub mod SameBytes
 pub mod Stacks
 pub mod Carried
 pub mod Failures

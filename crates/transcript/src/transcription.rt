@@ -5,6 +5,7 @@ ghost use Rattle.transcript.specs.declared.TheConstants.{LONGEST_SOURCE};
 ghost use Rattle.transcript.specs.declared.answers.FaultAt.{FaultAt as Placed};
 ghost use Rattle.transcript.specs.declared.answers.Refusal.TheVariants.{Faulted as RefusedBy};
 ghost use Rattle.transcript.specs.Law.{TranscriptionLaw};
+ghost use Rattle.transcript.specs.SameBytes.{SameBytes};
 ghost use Rattle.transcript.specs.Stacks.{TheLaw};
 ghost use Rattle.transcript.specs.declared.transcription.Failure.TheVariants.{NoMemory, Faulted};
 ghost use Rattle.transcript.specs.Calls.{fresh};
@@ -140,6 +141,7 @@ pub fn transcribe<S: CharacterSet + Drop, T: CharacterSet + Drop>(
     ensures too_long { IsTooLong bytes.now result }
     ensures its_law { TranscriptionLaw (set_of S.CharacterSet source)
         (set_of T.CharacterSet target) }
+    ensures same_bytes { SameBytes (set_of S.CharacterSet source) (set_of T.CharacterSet target) }
     ensures the_law { TheLaw }
 {
     into.text.clear();
