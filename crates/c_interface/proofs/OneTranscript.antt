@@ -3,6 +3,7 @@
 use Rattle.std.proofs.Common.{◌≡◌, ℕ, ◌-◌, length, take, replicate, cond, ◌==◌}
 use Rattle.std.proofs.Common.{refl, sym, ap, ◌∙◌}
 use Rattle.std.proofs.Math.Seq.{take-append_seam}
+use Rattle.charset.specs.declared.SetRefusal.{SetRefusal}
 use Rattle.conversion.specs.declared.Fault.{Fault}
 use Rattle.conversion.specs.declared.Fault.TheVariants.{Unread, Unwritten, Unfinished}
 use Rattle.transcript.specs.declared.answers.Done.{Done}
@@ -18,8 +19,8 @@ use Rattle.c_interface.specs.Records.{fault_record, state_number, state_fault, K
 
 fault_of : Told → Fault
 fault_of t =
-    cond (t.number == 6) (Unread (record { cause = t.cause; depth = t.depth }))
-    (cond (t.number == 7) (Unwritten t.character) Unfinished)
+    let q : SetRefusal = record { cause = t.cause; depth = t.depth } in
+    cond (t.number == 6) (Unread q) (cond (t.number == 7) (Unwritten t.character q) Unfinished)
 
 fault_at : Told → FaultAt
 fault_at t =
@@ -34,7 +35,7 @@ fault_back : (x : Fault) (o : ℕ) (d : Done)
     record { fault = x; offset = o; done = d }
 unfolding fault_at fault_of
 fault_back (Unread q) o d = refl
-fault_back (Unwritten c) o d = refl
+fault_back (Unwritten c q) o d = refl
 fault_back Unfinished o d = refl
 
 state_of : ℕ → Told → State

@@ -39,7 +39,7 @@ module _ (S T : Meaning) (l : Laws S) where
       → CanBeIn (state_after e o n w)
   can_be_after (Ok p) rest used room o n w st = tt
   can_be_after (Err (Unread q)) rest used room o n w st = tt
-  can_be_after (Err (Unwritten c)) rest used room o n w st = l.characters _ c st.1.1
+  can_be_after (Err (Unwritten c q)) rest used room o n w st = l.characters _ c st.1.1
   can_be_after (Err Unfinished) rest used room o n w st = absurd st
 
   module _ (s t : Snapshot) (h : Sound S s) where

@@ -61,7 +61,7 @@ record_of f g s =
 -- point, and a closing, which alone finds a source unfinished, takes and writes nothing
 abbrev pub CanMeet : Fault → Done → Type 0
 CanMeet (Unread q) d = Unit {0}
-CanMeet (Unwritten c) d = IsCodePoint c
+CanMeet (Unwritten c q) d = IsCodePoint c
 CanMeet Unfinished d = d ≡ done 0 0
 
 abbrev pub CanStand : FaultAt → Type 0

@@ -58,12 +58,16 @@ fn fault_record(at: FaultAt) -> Told
 fn fault_of(told: &Told) -> Option<FaultAt>
     ensures { MatchOption result (NoFault told.now) (HasFault told.now) }
 {
+    let refusal = SetRefusal {
+        cause: told.cause,
+        depth: told.depth,
+    };
     let fault = match told.number {
-        6 => Fault::Unread(SetRefusal {
-            cause: told.cause,
-            depth: told.depth,
-        }),
-        7 if told.character <= LAST_CHARACTER => Fault::Unwritten(told.character),
+        6 => Fault::Unread(refusal),
+        7 if told.character <= LAST_CHARACTER => Fault::Unwritten {
+            character: told.character,
+            refusal,
+        },
         9 if told.taken == 0 && told.written == 0 => Fault::Unfinished,
         _ => return None,
     };

@@ -12,12 +12,17 @@ use Rattle.std.proofs.lemmas.Bool.{cases_lt, cases_order, both_ways, false_from_
 use Rattle.charset.specs.declared.Reading.TheVariants.{Found, Open}
 use Rattle.charset.specs.Meaning.{Meaning, Codes, IsOpening, NoFront, Unreadable, Laws}
 use Rattle.charset.specs.Answers.{ReadAnswer, Reads, found_or, without_coding, look, reading}
-use Rattle.charset.specs.Answers.{OnlyAnswer, FourBytesDecide}
+use Rattle.charset.specs.Answers.{OnlyAnswer, FourBytesDecide, WriteAnswer, Writes, writing}
 
 -- an option of no value
 pub no_value : {A : Type 0} (o : Option A) → is_none o ≡ true → o ≡ None
 no_value None e = refl
 no_value (Some x) e = cc
+
+-- writing answers what the meaning says
+pub writing_is : (m : Meaning) (c : ℕ) (r : WriteAnswer) → Writes m c r → writing m c ≡ r
+writing_is m c (Ok s) h = rw h refl
+writing_is m c (Err q) h = rw (h.0, h.1) refl
 
 -- a beginning of a beginning is a beginning
 pub take-take_min : {A : Type 0} (j n : ℕ) (s : List A) → take j (take n s) ≡ take (min j n) s

@@ -1,6 +1,6 @@
 -- What a set answers to a question is one answer.
 use Rattle.std.proofs.Common.{◌≡◌, ℕ, ◌≤◌, ◌∙◌, ap, sym, subst, arith}
-use Rattle.charset.proofs.FrontLemmas.{reading_is}
+use Rattle.charset.proofs.FrontLemmas.{reading_is, writing_is}
 use Rattle.charset.specs.Meaning.{Meaning, Laws}
 use Rattle.conformance.specs.declared.answer.Reply.{Reply}
 use Rattle.conformance.specs.declared.vector.Question.{Question}
@@ -13,7 +13,8 @@ pub tells_answer : {m : Meaning} → Laws m → (q : Question) (n : ℕ) (r : Re
     → Tells m q n r → answer_to m q n ≡ r
 tells_answer l (question.Read width) n r (a, reads, same) =
     ap told_reading (reading_is l (string_of width n) a reads) ∙ sym same
-tells_answer l question.Write n r (a, writes, same) = ap told_coding (sym writes) ∙ sym same
+tells_answer {m} l question.Write n r (a, writes, same) =
+    ap told_coding (writing_is m n a writes) ∙ sym same
 
 -- where our answer to all numbers of a run is r, and they agree, so does r
 pub agree_alike : (v : Vector) (from to : ℕ) (r : Reply) → from ≤ to

@@ -1,12 +1,12 @@
 -- What an answer says.
 use Rattle.std.specs.Prelude.{◌≡◌, ℕ, Bool, true, false, ◌-◌, ◌/◌, List, length}
-use Rattle.std.specs.Prelude.{drop, Some, None, Option, Ok, Err, Result}
+use Rattle.std.specs.Prelude.{drop, Ok, Err, Result}
 use Rattle.std.specs.Int.{to_be_bytes, w32}
 use Rattle.charset.specs.declared.SetRefusal.{SetRefusal}
 use Rattle.charset.specs.declared.Reading.{Reading}
 use Rattle.charset.specs.declared.Reading.TheVariants.{Found, Open}
 use Rattle.charset.specs.Meaning.{Meaning}
-use Rattle.charset.specs.Answers.{Reads, Writes, reading}
+use Rattle.charset.specs.Answers.{Reads, WriteAnswer, Writes, reading, writing}
 use Rattle.conformance.specs.Numbers.{number_of}
 use Rattle.conformance.specs.declared.vector.Question.{Question}
 use Rattle.conformance.specs.declared.vector.Question.TheVariants as question
@@ -18,9 +18,9 @@ told_reading (Ok (Found c n)) = answer.Character c n
 told_reading (Ok Open) = answer.Open
 told_reading (Err q) = answer.Refused q.cause
 
-abbrev pub told_coding : Option (List ℕ) → Reply
-told_coding None = answer.NoCoding
-told_coding (Some c) = answer.Bytes (number_of c) (length c)
+abbrev pub told_coding : WriteAnswer → Reply
+told_coding (Ok c) = answer.Bytes (number_of c) (length c)
+told_coding (Err q) = answer.NoCoding
 
 abbrev pub is_refusal : Reply → Bool
 is_refusal (answer.Character c n) = false
@@ -35,7 +35,7 @@ TellsReading m s r = (a : Result Reading SetRefusal) × Reads m s a × (r ≡ to
 
 -- r tells what writing n answers
 abbrev pub TellsWriting : Meaning → ℕ → Reply → Type 0
-TellsWriting m n r = (a : Option (List ℕ)) × Writes m n a × (r ≡ told_coding a)
+TellsWriting m n r = (a : WriteAnswer) × Writes m n a × (r ≡ told_coding a)
 
 -- the string of so many hexadecimal digits, or of eight, that a number stands for
 abbrev pub string_of : (width number : ℕ) → List ℕ
@@ -44,7 +44,7 @@ string_of width n = drop (4 - width / 2) (to_be_bytes w32 n)
 -- the answer to a question put to n
 abbrev pub answer_to : Meaning → Question → ℕ → Reply
 answer_to m (question.Read width) n = told_reading (reading m (string_of width n))
-answer_to m question.Write n = told_coding (m.codings.string n)
+answer_to m question.Write n = told_coding (writing m n)
 
 -- r tells what is answered to a question put to n
 abbrev pub Tells : Meaning → Question → ℕ → Reply → Type 0

@@ -18,7 +18,7 @@ pub enum Reply {
     Refused(u8),
     /// The bytes of a coding as a number, and how many they are.
     Bytes(u32, usize),
-    /// The character has no coding.
+    /// The character has no coding; the other converter gives no cause.
     NoCoding,
 }
 
@@ -34,16 +34,16 @@ impl From<Result<Reading, SetRefusal>> for Reply {
     }
 }
 
-impl From<Option<Coding>> for Reply {
+impl From<Result<Coding, SetRefusal>> for Reply {
     ghost from_gives = { λ coding answer. answer ≡ told_coding coding };
 
-    fn from(coding: Option<Coding>) -> Reply {
+    fn from(coding: Result<Coding, SetRefusal>) -> Reply {
         match coding {
-            Some(coding) => {
+            Ok(coding) => {
                 let bytes = coding.as_bytes();
                 Reply::Bytes(number_of(bytes), bytes.len())
             }
-            None => Reply::NoCoding,
+            Err(_) => Reply::NoCoding,
         }
     }
 }

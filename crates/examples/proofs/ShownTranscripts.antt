@@ -11,7 +11,6 @@ use Rattle.sets.specs.Iso6937.{iso6937}
 use Rattle.sets.specs.Laws.Iso6937.{iso6937_laws}
 use Rattle.sets.specs.SingleByte.{single_byte}
 use Rattle.sets.specs.SingleByteTables.{iso8859_16}
-use Rattle.conversion.specs.declared.Fault.TheVariants.{Unwritten}
 use Rattle.conversion.specs.declared.Pause.TheVariants as pause
 use Rattle.conversion.specs.Stops.{End, Stops, Reaches}
 use Rattle.transcript.specs.declared.answers.Refusal.TheVariants.{Faulted}
@@ -21,7 +20,7 @@ use Rattle.transcript.specs.Calls.{done, fault_at}
 use Rattle.transcript.specs.Uses.{start, offer, Use, made, call}
 use Rattle.examples.proofs.ShownSets.{by_reading}
 use Rattle.examples.proofs.ShownSets.{set_examples}
-use Rattle.examples.specs.Transcripts.{WorkedExamples}
+use Rattle.examples.specs.Transcripts.{no_cedilla_there, WorkedExamples}
 
 -- ISO/IEC 6937 into ISO/IEC 8859-16
 abbrev latin : Meaning
@@ -77,10 +76,10 @@ letter_offered = call acute_offered (record {
 
 cedilla_offered : Use iso6937 latin
     (offer (0x41 ∷ 0xcb ∷ 0x73 ∷ []) (0 ∷ 0 ∷ [])
-    (Err (Faulted (fault_at (Unwritten 0x15f) 1 1 1)))
+    (Err (Faulted no_cedilla_there))
     (0x41 ∷ 0 ∷ []) ∷ (start ∷ []))
     (record {
-      state = state.Faulted (fault_at (Unwritten 0x15f) 1 1 1);
+      state = state.Faulted no_cedilla_there;
       taken = 1;
       characters = 1;
       written = 1;
@@ -91,11 +90,11 @@ cedilla_offered = call made (record {
   chars = 0x41 ∷ [];
   source = 0x41 ∷ [];
   target = 0x41 ∷ [];
-  end = Err (Unwritten 0x15f);
+  end = Err no_cedilla_there.fault;
   reaches =
-      reaching (0x41 ∷ 0xcb ∷ 0x73 ∷ []) 2 (Err (Unwritten 0x15f)) (0x41 ∷ []) (0x41 ∷ [])
+      reaching (0x41 ∷ 0xcb ∷ 0x73 ∷ []) 2 (Err no_cedilla_there.fault) (0x41 ∷ []) (0x41 ∷ [])
       (0x41 ∷ []) (0xcb ∷ 0x73 ∷ []) (0x41 ∷ [], [], refl, refl, refl)
-      (0x41 ∷ [], [], refl, refl, refl) refl (omega arith) (2, cedilla_read, refl);
+      (0x41 ∷ [], [], refl, refl, refl) refl (omega arith) (2, cedilla_read, (refl, refl));
   answer = refl;
   left = refl;
   next = refl;
@@ -111,5 +110,5 @@ worked_examples = record {
   letter_next = letter_offered;
   no_cedilla = cedilla_offered;
   acute_closed = call acute_offered (refl, refl);
-  numbers = (refl, refl);
+  numbers = (refl, refl, refl);
 }

@@ -38,8 +38,11 @@ odd_openings (a ∷ b ∷ s) = false
 abbrev pub odd_causes : List ℕ → SetRefusal
 odd_causes s = record { cause = 77; depth = 255 }
 
+abbrev pub odd_write_causes : ℕ → SetRefusal
+odd_write_causes c = record { cause = 78; depth = 255 }
+
 abbrev pub odd_codings : Codings
 odd_codings = record { character = odd_character; string = odd_string }
 
 abbrev pub odd : Meaning
-odd = meaning odd_codings odd_openings odd_causes
+odd = meaning odd_codings odd_openings odd_causes odd_write_causes

@@ -4,6 +4,7 @@ use Rattle.sets.specs.Iso6937.{iso6937}
 use Rattle.sets.specs.SingleByte.{single_byte}
 use Rattle.sets.specs.SingleByteTables.{iso8859_16}
 use Rattle.conversion.specs.declared.Fault.TheVariants.{Unwritten, Unfinished}
+use Rattle.transcript.specs.declared.answers.FaultAt.{FaultAt}
 use Rattle.transcript.specs.declared.answers.Refusal.TheVariants.{Faulted}
 use Rattle.transcript.specs.declared.answers.State.TheVariants.{Open}
 use Rattle.transcript.specs.declared.answers.State.TheVariants as state
@@ -15,6 +16,10 @@ use Rattle.transcript.specs.Told.{told}
 use Rattle.transcript.specs.Calls.{done, fault_at}
 use Rattle.transcript.specs.Uses.{start, offer, close, Use}
 use Rattle.examples.specs.SetsAndLayers.{SetExamples}
+
+-- ISO/IEC 8859-16 does not have s with cedilla: one byte taken and written before it, 38 at depth 0
+abbrev pub no_cedilla_there : FaultAt
+no_cedilla_there = fault_at (Unwritten 0x15f (record { cause = 38; depth = 0 })) 1 1 1
 
 pub record WorkedExamples : Type 0 where
   -- how many bytes a sector, an output and a source may have
@@ -38,9 +43,9 @@ pub record WorkedExamples : Type 0 where
   -- a letter, then s with cedilla, which the target set does not have: 7 at offset 1
   pub no_cedilla : Use iso6937 (single_byte iso8859_16)
       (offer (0x41 ∷ 0xcb ∷ 0x73 ∷ []) (0 ∷ 0 ∷ [])
-      (Err (Faulted (fault_at (Unwritten 0x15f) 1 1 1))) (0x41 ∷ 0 ∷ []) ∷ (start ∷ []))
+      (Err (Faulted no_cedilla_there)) (0x41 ∷ 0 ∷ []) ∷ (start ∷ []))
       (record {
-        state = state.Faulted (fault_at (Unwritten 0x15f) 1 1 1);
+        state = state.Faulted no_cedilla_there;
         taken = 1;
         characters = 1;
         written = 1;
@@ -57,5 +62,6 @@ pub record WorkedExamples : Type 0 where
         written = 0;
         held = 0xc2 ∷ [];
       })
-  pub numbers : ((told (Faulted (fault_at (Unwritten 0x15f) 1 1 1))).number ≡ 7)
+  pub numbers : ((told (Faulted no_cedilla_there)).number ≡ 7)
+      × ((told (Faulted no_cedilla_there)).cause ≡ 38)
       × ((told (Faulted (fault_at Unfinished 0 0 0))).number ≡ 9)

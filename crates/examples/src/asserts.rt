@@ -37,12 +37,18 @@ pub(crate) fn writes<S: CharacterSet>(
     number: u32,
     bytes: &[u8],
 ) -> Result<(), Fail> {
-    let coding = set.write(number).ok_or("no coding")?;
+    let coding = set.write(number).map_err(|_| "no coding")?;
     assert!(rt; coding.as_bytes() == bytes);
     Ok(())
 }
 
-// The character has no coding.
-pub(crate) fn writes_nothing<S: CharacterSet>(rt: &impl Abort, set: &S, number: u32) {
-    assert!(rt; set.write(number).is_none());
+// The character is not written, with this cause, at this depth.
+pub(crate) fn writes_nothing<S: CharacterSet>(
+    rt: &impl Abort,
+    set: &S,
+    number: u32,
+    cause: u8,
+    depth: u8,
+) {
+    assert_eq!(rt; set.write(number).err(), Some(SetRefusal { cause, depth }));
 }

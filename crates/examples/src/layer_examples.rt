@@ -2,7 +2,7 @@
 use crate::asserts::{opens, reads, refuses, writes, writes_nothing};
 use crate::odd::Odd;
 use layers::{CharacterList, with_controls, with_list, with_parity, with_shift};
-use sets::Iso6937;
+use sets::{Iso6937, Utf8};
 use std::process::Abort;
 use std::test::Fail;
 
@@ -18,8 +18,10 @@ fn parity_on_odd(rt: HostRuntime) -> Result<(), Fail> {
     refuses(&rt, &set, &[0x41], 77, 255);
     writes(&rt, &set, 0x20, &[0xA0])?;
     writes(&rt, &set, 0, &[0x99])?;
-    writes_nothing(&rt, &set, 0xD800);
-    writes_nothing(&rt, &set, 0x41);
+    // Their codings below have a byte from 80 up; the set below has no other character.
+    writes_nothing(&rt, &set, 0xD800, 34, 0);
+    writes_nothing(&rt, &set, 0x41, 34, 0);
+    writes_nothing(&rt, &set, 0x42, 78, 255);
     Ok(())
 }
 
@@ -36,8 +38,10 @@ fn shift_on_odd(rt: HostRuntime) -> Result<(), Fail> {
     refuses(&rt, &set, &[0x43, 0x85], 35, 0);
     refuses(&rt, &set, &[0x19, 0x20, 0x43], 77, 255);
     writes(&rt, &set, 0x41, &[0x19, 0x20, 0x19, 0x21])?;
-    writes_nothing(&rt, &set, 0);
-    writes_nothing(&rt, &set, 0x10FFFF);
+    // Their codings below have a byte 19 and bytes 80 and 9F.
+    writes_nothing(&rt, &set, 0, 35, 0);
+    writes_nothing(&rt, &set, 0x10FFFF, 35, 0);
+    writes_nothing(&rt, &set, 0x42, 78, 255);
     Ok(())
 }
 
@@ -54,7 +58,7 @@ fn controls_on_odd(rt: HostRuntime) -> Result<(), Fail> {
     refuses(&rt, &set, &[0x00], 77, 255);
     reads(&rt, &set, &[0x19], 0, 1);
     writes(&rt, &set, 0, &[0x19])?;
-    writes_nothing(&rt, &set, 0x19);
+    writes_nothing(&rt, &set, 0x19, 78, 255);
     refuses(&rt, &set, &[0x0D], 77, 255);
     Ok(())
 }
@@ -67,7 +71,10 @@ fn list_on_odd(rt: HostRuntime) -> Result<(), Fail> {
     refuses(&rt, &set, &[0x44], 77, 255);
     opens(&rt, &set, &[0x43]);
     writes(&rt, &set, 0x41, &[0xA0, 0xA1])?;
-    writes_nothing(&rt, &set, 0);
+    writes_nothing(&rt, &set, 0, 37, 0);
+    // Off the list or not, what the set below cannot write has the cause from below.
+    writes_nothing(&rt, &set, 0x42, 78, 255);
+    writes_nothing(&rt, &set, 0x263A, 78, 255);
     Ok(())
 }
 
@@ -82,6 +89,41 @@ fn seven_bits(rt: HostRuntime) -> Result<(), Fail> {
     let even = with_parity(set);
     writes(&rt, &even, 0xE9, &[0x99, 0x42, 0x65])?;
     refuses(&rt, &even, &[0x99, 0x42, 0x2E], 32, 2);
+    Ok(())
+}
+
+// A byte 19, a byte from 80 to 9F, and a coding over four bytes; of two, the byte goes first.
+#[test]
+fn shift_on_utf8(rt: HostRuntime) -> Result<(), Fail> {
+    let set = with_shift(Utf8);
+    writes(&rt, &set, 0xA0, &[0x19, 0x42, 0x19, 0x20])?;
+    writes_nothing(&rt, &set, 0x19, 35, 0);
+    writes_nothing(&rt, &set, 0x80, 35, 0);
+    writes_nothing(&rt, &set, 0x820, 36, 0);
+    writes_nothing(&rt, &set, 0x20800, 35, 0);
+    writes_nothing(&rt, &set, 0xD800, 38, 1);
+    Ok(())
+}
+
+// Each cause through a stack of four: parity on controls on a list on shift, and the other way
+// round but for the list.
+#[test]
+fn causes_of_writing_in_stacks(rt: HostRuntime) -> Result<(), Fail> {
+    let listed = with_list(CharacterList::new(rt.alloc())?, with_shift(Utf8));
+    let even = with_parity(with_controls([true; 32], listed));
+    writes(&rt, &even, 0x0A, &[0x0A])?;
+    writes_nothing(&rt, &even, 0x21, 37, 2);
+    writes_nothing(&rt, &even, 0x19, 35, 3);
+    writes_nothing(&rt, &even, 0x820, 36, 3);
+    writes_nothing(&rt, &even, 0xD800, 38, 4);
+    let listed = with_list(CharacterList::new(rt.alloc())?, with_parity(Iso6937));
+    let shifted = with_shift(with_controls([true; 32], listed));
+    writes(&rt, &shifted, 0x41, &[0x41])?;
+    writes(&rt, &shifted, 0x43, &[0x19, 0x43])?;
+    writes_nothing(&rt, &shifted, 0x19, 35, 0);
+    writes_nothing(&rt, &shifted, 0x21, 37, 2);
+    writes_nothing(&rt, &shifted, 0xE9, 34, 3);
+    writes_nothing(&rt, &shifted, 0x4E00, 38, 4);
     Ok(())
 }
 

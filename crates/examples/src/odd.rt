@@ -1,18 +1,23 @@
 //! A set of our own making, lawful and odd, for the layers to stand on.
 ghost use Rattle.std.specs.Prelude.{◌≡◌};
 ghost use Rattle.examples.specs.Odd.{odd_single, odd_pair, odd_opens, odd_codings};
-ghost use Rattle.examples.specs.Odd.{odd_openings, odd_causes};
+ghost use Rattle.examples.specs.Odd.{odd_string, odd_openings, odd_causes, odd_write_causes};
 ghost use Rattle.examples.specs.Laws.Odd.{odd_laws};
 
 use charset::{CharacterSet, Coding, Reading, SetRefusal};
 
 /// A set that is lawful and odd: an opening that begins no coding, codings with bytes 19 and 80 to
-/// 9F, a surrogate and U+0000 as characters, and a cause as deep as can be.
+/// 9F, a surrogate and U+0000 as characters, and causes as deep as can be.
 #[derive(Clone, Copy)]
 pub struct Odd;
 
 const REFUSAL: SetRefusal = SetRefusal {
     cause: 77,
+    depth: 255,
+};
+
+const WRITE_REFUSAL: SetRefusal = SetRefusal {
+    cause: 78,
     depth: 255,
 };
 
@@ -43,12 +48,27 @@ fn opens(byte: u8) -> bool
     matches!(byte, 0x80 | 0xA0 | 0x43)
 }
 
+fn coding_of(number: u32) -> Option<Coding>
+    ensures { result ≡ odd_string number }
+{
+    match number {
+        0 => Some(Coding::new(0x19)),
+        0xD800 => Some(Coding::new(0x85)),
+        0x20 => Some(Coding::new(0x20)),
+        0x10FFFF => Coding::new(0x80).then(0x9F),
+        0x41 => Coding::new(0xA0).then(0xA1),
+        _ => None,
+    }
+}
+
 impl CharacterSet for Odd {
     ghost codings = { λ _. odd_codings };
 
     ghost openings = { λ _. odd_openings };
 
     ghost causes = { λ _. odd_causes };
+
+    ghost write_causes = { λ _. odd_write_causes };
 
     ghost lawful = { λ s. odd_laws };
 
@@ -75,14 +95,7 @@ impl CharacterSet for Odd {
         })
     }
 
-    fn write(&self, number: u32) -> Option<Coding> {
-        match number {
-            0 => Some(Coding::new(0x19)),
-            0xD800 => Some(Coding::new(0x85)),
-            0x20 => Some(Coding::new(0x20)),
-            0x10FFFF => Coding::new(0x80).then(0x9F),
-            0x41 => Coding::new(0xA0).then(0xA1),
-            _ => None,
-        }
+    fn write(&self, number: u32) -> Result<Coding, SetRefusal> {
+        coding_of(number).ok_or(WRITE_REFUSAL)
     }
 }

@@ -1,9 +1,11 @@
 //! Which pages of a roll are refused, and the words for it.
+use charset::SetRefusal;
+use conversion::Fault;
 use report::{FaultWords, RollFault, RollWords, refused_pages};
 use roll::{Builder, Form, RollRefusal};
 use std::process::Abort;
 use std::test::Fail;
-use transcript::FaultAt;
+use transcript::{Done, FaultAt};
 
 // The faults of the pages of a roll, each by its page, number, offset and cause.
 #[test]
@@ -103,6 +105,86 @@ fn causes_in_words(rt: HostRuntime) -> Result<(), Fail> {
         b"Antoni\xC2",
         "offset 6: C2: \
         bytes at the very end that wait for more (refusal 9)",
+    )
+}
+
+// What is said where form 7 cannot take a character, for this cause.
+fn says_unwritten(
+    rt: &(impl Abort + AllocGlobal),
+    character: u32,
+    page: &[u8],
+    refusal: SetRefusal,
+    said: &str,
+) -> Result<(), Fail> {
+    let at = FaultAt {
+        fault: Fault::Unwritten { character, refusal },
+        offset: 1,
+        done: Done::default(),
+    };
+    let words = FaultWords::new(Form::Unicode, Form::Basic, page, at);
+    let words = format!(in rt.alloc(); "{words}")?;
+    assert!(rt; words.as_str() == said, "{words}");
+    Ok(())
+}
+
+#[test]
+fn causes_of_writing_in_words(rt: HostRuntime) -> Result<(), Fail> {
+    says_unwritten(
+        &rt,
+        0xE9,
+        b"a\xC3\xA9",
+        SetRefusal {
+            cause: 34,
+            depth: 0,
+        },
+        "offset 1: C3 A9: U+00E9 has no coding in iso6937-basic: \
+        its coding has a byte from 80 up, to which parity cannot be added \
+        (refusal 7, cause 34, depth 0)",
+    )?;
+    says_unwritten(
+        &rt,
+        0x80,
+        b"a\xC2\x80",
+        SetRefusal {
+            cause: 35,
+            depth: 1,
+        },
+        "offset 1: C2 80: U+0080 has no coding in iso6937-basic: \
+        its coding has a byte 19, or one from 80 to 9F, which cannot be shifted \
+        (refusal 7, cause 35, depth 1)",
+    )?;
+    says_unwritten(
+        &rt,
+        0x820,
+        b"a\xE0\xA0\xA0",
+        SetRefusal {
+            cause: 36,
+            depth: 2,
+        },
+        "offset 1: E0 A0 A0: U+0820 has no coding in iso6937-basic: \
+        its coding is over four bytes once it is shifted (refusal 7, cause 36, depth 2)",
+    )?;
+    says_unwritten(
+        &rt,
+        0xE9,
+        b"a\xC3\xA9",
+        SetRefusal {
+            cause: 37,
+            depth: 1,
+        },
+        "offset 1: C3 A9: U+00E9 has no coding in iso6937-basic: \
+        it is not on the list (refusal 7, cause 37, depth 1)",
+    )?;
+    says_unwritten(
+        &rt,
+        0x219,
+        b"a\xC8\x99",
+        SetRefusal {
+            cause: 38,
+            depth: 2,
+        },
+        "offset 1: C8 99: U+0219 has no coding in iso6937-basic: \
+        the set does not have it (refusal 7, cause 38, depth 2)",
     )
 }
 

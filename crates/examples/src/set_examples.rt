@@ -50,9 +50,9 @@ fn utf8_refusals(rt: HostRuntime) {
     refused(&rt, &Utf8, &[0xF4, 0x90], 33);
     refused(&rt, &Utf8, &[0xF5], 33);
     opens(&rt, &Utf8, &[0xF4, 0x8F, 0xBF]);
-    writes_nothing(&rt, &Utf8, 0xD800);
-    writes_nothing(&rt, &Utf8, 0xDFFF);
-    writes_nothing(&rt, &Utf8, 0x110000);
+    writes_nothing(&rt, &Utf8, 0xD800, 38, 0);
+    writes_nothing(&rt, &Utf8, 0xDFFF, 38, 0);
+    writes_nothing(&rt, &Utf8, 0x110000, 38, 0);
 }
 
 #[test]
@@ -68,7 +68,7 @@ fn iso6937_pairs(rt: HostRuntime) -> Result<(), Fail> {
     refused(&rt, &Iso6937, &[0xC1, b' '], 32);
     refused(&rt, &Iso6937, &[0xC9, b'a'], 31);
     refused(&rt, &Iso6937, &[0x0A], 31);
-    writes_nothing(&rt, &Iso6937, 0x219);
+    writes_nothing(&rt, &Iso6937, 0x219, 38, 0);
     Ok(())
 }
 
@@ -79,12 +79,12 @@ fn single_bytes(rt: HostRuntime) -> Result<(), Fail> {
     both_ways(&rt, &romanian, &[0xDE], 0x21A)?;
     both_ways(&rt, &romanian, &[0xA4], 0x20AC)?;
     refused(&rt, &romanian, &[0x9F], 31);
-    writes_nothing(&rt, &romanian, 0x15E);
-    writes_nothing(&rt, &romanian, 0x15F);
+    writes_nothing(&rt, &romanian, 0x15E, 38, 0);
+    writes_nothing(&rt, &romanian, 0x15F, 38, 0);
     opens(&rt, &romanian, &[]);
     let sami = SingleByte::sami();
     both_ways(&rt, &sami, &[0xAF], 0x14A)?;
     refused(&rt, &sami, &[0x82], 31);
-    writes_nothing(&rt, &sami, 0);
+    writes_nothing(&rt, &sami, 0, 38, 0);
     Ok(())
 }

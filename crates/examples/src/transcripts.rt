@@ -22,6 +22,11 @@ fn unread(cause: u8, depth: u8) -> Fault {
     Fault::Unread(SetRefusal { cause, depth })
 }
 
+fn unwritten(character: u32, cause: u8, depth: u8) -> Fault {
+    let refusal = SetRefusal { cause, depth };
+    Fault::Unwritten { character, refusal }
+}
+
 fn status(taken: u64, characters: u64, written: u64, held: usize, state: State) -> Status {
     Status {
         taken,
@@ -75,7 +80,7 @@ fn put_down_and_taken_up(rt: HostRuntime) -> Result<(), Fail> {
 fn no_target_coding(rt: HostRuntime) -> Result<(), Fail> {
     let mut transcript = Transcript::new(Iso6937, SingleByte::iso8859_16());
     let mut output = [0u8; 8];
-    let fault = at(Fault::Unwritten(0x15F), 1, done(1, 1));
+    let fault = at(unwritten(0x15F, 38, 0), 1, done(1, 1));
     assert_eq!(rt;
         transcript.offer(b"A\xCBs", &mut output),
         Err(Refusal::Faulted(fault))
@@ -224,6 +229,13 @@ fn numbers(rt: HostRuntime) -> Result<(), Fail> {
     let told = Refusal::Standing(fault).told();
     assert!(rt; told.number == 4 && told.standing == 6 && told.offset == 6 && told.cause == 35);
     assert!(rt; told.depth == 1 && told.character == 0 && told.taken == 4 && told.written == 5);
+    let unwritten = at(unwritten(0xE9, 37, 2), 6, done(4, 5));
+    let told = Refusal::Faulted(unwritten).told();
+    assert!(rt; told.number == 7 && told.standing == 0 && told.offset == 6 && told.cause == 37);
+    assert!(rt; told.depth == 2 && told.character == 0xE9 && told.taken == 4 && told.written == 5);
+    let standing = Refusal::Standing(unwritten).told();
+    assert!(rt; standing.number == 4 && standing.standing == 7 && standing.cause == 37);
+    assert!(rt; standing.depth == 2 && standing.character == 0xE9);
     assert_eq!(rt; Refusal::SectorTooLong.told().number, 1);
     assert_eq!(rt; Refusal::OutputTooLong.told().number, 2);
     assert_eq!(rt; Refusal::SourceTooLong.told().number, 3);

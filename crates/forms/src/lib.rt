@@ -55,6 +55,8 @@ impl CharacterSet for FormSet {
 
     ghost causes = { λ s. (meaning_of s).causes };
 
+    ghost write_causes = { λ s. (meaning_of s).write_causes };
+
     ghost lawful = { chosen_laws };
 
     fn read(&self, bytes: &[u8]) -> Result<Reading, SetRefusal> {
@@ -68,7 +70,7 @@ impl CharacterSet for FormSet {
         }
     }
 
-    fn write(&self, number: u32) -> Option<Coding> {
+    fn write(&self, number: u32) -> Result<Coding, SetRefusal> {
         match self {
             FormSet::EightBit(set) => set.write(number),
             FormSet::SevenBit(set) => set.write(number),

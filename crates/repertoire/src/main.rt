@@ -55,8 +55,8 @@ fn read_two(rt: &HostRuntime, first: u8) -> io::Result<()> {
 // How a character is written, if it is.
 fn write_one(rt: &HostRuntime, number: u32) -> io::Result<()> {
     match Iso6937.write(number).map(Bytes) {
-        Some(bytes) => println!(rt; "U+{number:04X}{bytes}"),
-        None => Ok(()),
+        Ok(bytes) => println!(rt; "U+{number:04X}{bytes}"),
+        Err(_) => Ok(()),
     }
 }
 

@@ -25,12 +25,12 @@ use Rattle.report.specs.Reports.{PageBlock, PagesWritten, number_line, InputRefu
 told_number : (t : Told) (o : ℕ) (d : Done) (x : Fault)
     → (with_fault t o d x).number ≡ t.number
 told_number t o d (Unread q) = refl
-told_number t o d (Unwritten c) = refl
+told_number t o d (Unwritten c q) = refl
 told_number t o d Unfinished = refl
 
 told_offset : (t : Told) (o : ℕ) (d : Done) (x : Fault) → (with_fault t o d x).offset ≡ o
 told_offset t o d (Unread q) = refl
-told_offset t o d (Unwritten c) = refl
+told_offset t o d (Unwritten c q) = refl
 told_offset t o d Unfinished = refl
 
 -- the line tells of an outcome just its fault and its offset

@@ -93,17 +93,17 @@ form_written Basic =
 
 ends_written : (m : Meaning) → AllInUtf8 m → (rest : List ℕ) (stop : Option Fault)
     → Ends m utf8 rest stop → AlwaysWritten stop
-ends_written m all rest stop h c e =
-    let k : Ends m utf8 rest (Some (Unwritten c)) = subst (Ends m utf8 rest) e h in
-    none-some _ (sym k.2 ∙ (all (take k.0 rest) c k.1.1).1)
+ends_written m all rest stop h c q e =
+    let k : Ends m utf8 rest (Some (Unwritten c q)) = subst (Ends m utf8 rest) e h in
+    none-some _ (sym k.2.0 ∙ (all (take k.0 rest) c k.1.1).1)
 
 pub always_written : (f : Form) (bytes text : List ℕ) (n : ℕ) (r : Result (Unit {0}) Failure)
     → Transcribes (form_set f) utf8 bytes text n r → AlwaysWritten (fault_told_in r)
 always_written f bytes text n (Ok u) h =
     ends_written (form_set f) (form_written f) (drop (length bytes) bytes) None
     h.the_transcription.transcribed.ends
-always_written f bytes text n (Err NoMemory) h = λ c e. cc
-always_written f bytes text n (Err TooLong) h = λ c e. cc
+always_written f bytes text n (Err NoMemory) h = λ c q e. cc
+always_written f bytes text n (Err TooLong) h = λ c q e. cc
 always_written f bytes text n (Err (Faulted p)) h =
     ends_written (form_set f) (form_written f) (drop p.offset bytes) (Some p.fault)
     h.the_transcription.transcribed.ends

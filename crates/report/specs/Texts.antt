@@ -2,6 +2,7 @@
 use Rattle.std.specs.Prelude.{◌≡◌, ℕ, ◌<◌, ◌≤◌, ◌⊎◌, List, [], length}
 use Rattle.std.specs.Prelude.{Some, None, Ok, Err, vec_items, Option, Result, ◌≢◌}
 use Rattle.transcript.specs.declared.TheConstants.{LONGEST_SOURCE}
+use Rattle.charset.specs.declared.SetRefusal.{SetRefusal}
 use Rattle.sets.specs.Utf8.{utf8}
 use Rattle.conversion.specs.declared.Fault.{Fault}
 use Rattle.conversion.specs.declared.Fault.TheVariants.{Unwritten}
@@ -23,7 +24,7 @@ use Rattle.forms.specs.FormSets.{form_set}
 
 -- no character was met that has no coding in UTF-8
 abbrev pub AlwaysWritten : Option Fault → Type 0
-AlwaysWritten stop = (c : ℕ) → stop ≢ Some (Unwritten c)
+AlwaysWritten stop = (c : ℕ) (q : SetRefusal) → stop ≢ Some (Unwritten c q)
 
 -- an outcome as the roll's, with the page number
 abbrev pub on_page : ℕ → Outcome → Result (Unit {0}) RollFault

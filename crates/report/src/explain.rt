@@ -71,12 +71,14 @@ impl fmt::Display for FaultWords<'_> {
                     "{words} (refusal {number}, cause {cause}, depth {depth})"
                 )
             }
-            Fault::Unwritten(character) => {
+            Fault::Unwritten {
+                character,
+                refusal: SetRefusal { cause, depth },
+            } => {
                 let target = form_name(target);
-                write!(
-                    f,
-                    "U+{character:04X} has no coding in {target} (refusal {number})"
-                )
+                let words = write_cause_words(cause);
+                write!(f, "U+{character:04X} has no coding in {target}: {words}")?;
+                write!(f, " (refusal {number}, cause {cause}, depth {depth})")
             }
             Fault::Unfinished => {
                 write!(
@@ -119,6 +121,18 @@ fn cause_words(cause: u8, bytes: &[u8]) -> CauseWords {
     CauseWords {
         diacritic: (cause == 32).then_some(diacritic_name(bytes)),
         words,
+    }
+}
+
+/// What a cause says of a character that a set or a layer cannot write.
+fn write_cause_words(cause: u8) -> &'static str {
+    match cause {
+        34 => "its coding has a byte from 80 up, to which parity cannot be added",
+        35 => "its coding has a byte 19, or one from 80 to 9F, which cannot be shifted",
+        36 => "its coding is over four bytes once it is shifted",
+        37 => "it is not on the list",
+        38 => "the set does not have it",
+        _ => "a cause of no set or layer here",
     }
 }
 

@@ -84,6 +84,7 @@ odd_laws = record {
   opening_bare = no_front_by odd opening_begins no_coding;
   cause_sized = λ s h. (omega arith, omega arith);
   cause_stays = λ s n h. refl;
+  write_cause_sized = λ c h. (omega arith, omega arith);
 }
 
 pub bad_second : (s : List ℕ) → 2 ≤ length s → odd_opens (slice_index s 0) ≡ true
