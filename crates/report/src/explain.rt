@@ -71,10 +71,8 @@ impl fmt::Display for FaultWords<'_> {
                     "{words} (refusal {number}, cause {cause}, depth {depth})"
                 )
             }
-            Fault::Unwritten {
-                character,
-                refusal: SetRefusal { cause, depth },
-            } => {
+            Fault::Unwritten { character, refusal } => {
+                let SetRefusal { cause, depth } = refusal;
                 let target = form_name(target);
                 let words = write_cause_words(cause);
                 write!(f, "U+{character:04X} has no coding in {target}: {words}")?;

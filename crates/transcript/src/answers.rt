@@ -165,13 +165,10 @@ impl From<FaultAt> for Told {
                 written,
                 ..placed
             },
-            Fault::Unwritten {
+            Fault::Unwritten { character, refusal } => Told {
                 character,
-                refusal: SetRefusal { cause, depth },
-            } => Told {
-                character,
-                cause,
-                depth,
+                cause: refusal.cause,
+                depth: refusal.depth,
                 taken,
                 written,
                 ..placed
