@@ -14,10 +14,10 @@ static int refused(const struct finetalc_answer *answer)
     fprintf(stderr, "transcribe: refused %u", answer->number);
     if (answer->number == 6 || answer->number == 7 || answer->number == 9)
         fprintf(stderr, " at offset %" PRIu64, answer->offset);
-    if (answer->number == 6)
-        fprintf(stderr, ": cause %u, depth %u", answer->cause, answer->depth);
     if (answer->number == 7)
         fprintf(stderr, ": U+%04" PRIX32 " has no coding in the target", answer->character);
+    if (answer->number == 6 || answer->number == 7)
+        fprintf(stderr, ": cause %u, depth %u", answer->cause, answer->depth);
     fputc('\n', stderr);
     return EXIT_FAILURE;
 }

@@ -77,6 +77,8 @@ fn a_fault_stands_until_the_start(rt: HostRuntime) -> Result<(), Fail> {
         taken: 1,
         written: 1,
         character: 0x15F,
+        cause: 38,
+        depth: 1,
         ..alone(7)
     };
     assert!(rt;
@@ -327,6 +329,8 @@ fn faults_that_cannot_stand(rt: HostRuntime) -> Result<(), Fail> {
     let unfinished = alone(9);
     let unwritten = Told {
         character: 0x10FFFF,
+        cause: 255,
+        depth: 255,
         ..alone(7)
     };
     let wrong = [
