@@ -38,6 +38,7 @@ write_examples = record {
   shift_list = (refl, refl);
   shift_parity = (refl, refl);
   shift_set = (refl, refl);
+  deepest = (refl, refl);
 }
 
 pub set_examples : SetExamples

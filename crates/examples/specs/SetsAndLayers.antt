@@ -6,6 +6,7 @@ use Rattle.charset.specs.Answers.{ReadAnswer, Reads, Writes}
 use Rattle.sets.specs.Iso6937.{iso6937}
 use Rattle.sets.specs.Utf8.{utf8}
 use Rattle.layers.specs.CharacterList.{required}
+use Rattle.examples.specs.Odd.{odd}
 use Rattle.layers.specs.Layers.{parity, shift, sub, controls}
 
 -- the refusal with this cause, and so many layers above the one that refused
@@ -43,6 +44,8 @@ pub record WriteExamples : Type 0 where
   pub shift_list : CannotWrite (shift (with_controls (parity iso6937))) 0x21 37 2
   pub shift_parity : CannotWrite (shift (with_controls (parity iso6937))) 0xe9 34 3
   pub shift_set : CannotWrite (shift (with_controls (parity iso6937))) 0x4e00 38 4
+  -- a set whose cause of writing is as deep as can be
+  pub deepest : CannotWrite (parity odd) 0x42 78 255
 
 pub record SetExamples : Type 0 where
   -- ISO/IEC 6937: e with acute, an acute alone, an acute before a full stop, a position not in use,
