@@ -21,7 +21,9 @@ pub struct Controls<S> {
 }
 
 impl<S: CharacterSet> Controls<S> {
-    // Whether the set below cannot read a byte alone.
+    // Whether the set below cannot read a byte alone. Asked of few bytes: without it, reading and
+    // writing the others is faster.
+    #[inline(never)]
     fn is_refused_below(&self, byte: u8) -> bool
         ensures { result ≡ is_err (reading (set_of S.CharacterSet self.now.below) (byte ∷ [])) }
     {
@@ -62,8 +64,8 @@ impl<S: CharacterSet> CharacterSet for Controls<S> {
     }
 
     fn write(&self, number: u32) -> Result<Coding, SetRefusal> {
-        match u8::try_from(number) {
-            Ok(byte) if self.adds(byte) => Ok(Coding::new(byte)),
+        match number {
+            0..=0x1F if self.adds(number as u8) => Ok(Coding::new(number as u8)),
             _ => self.below.write(number).map_err(from_below),
         }
     }

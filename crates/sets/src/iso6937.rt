@@ -1,8 +1,6 @@
 //! ISO/IEC 6937:1994 in its 8-bit form.
-ghost use Rattle.std.specs.Prelude.{◌≡◌};
 ghost use Rattle.sets.specs.Causes.{no_coding};
 ghost use Rattle.sets.specs.Iso6937.{iso6937_codings, iso6937_openings, iso6937_causes};
-ghost use Rattle.sets.specs.Iso6937.{iso6937_string};
 ghost use Rattle.sets.specs.Laws.Iso6937.{iso6937_laws};
 
 mod table;
@@ -18,17 +16,6 @@ use table::{accented, letters_of, pair_of, single, single_byte};
 /// without a coding is not written, by 38.
 #[derive(Clone, Copy)]
 pub struct Iso6937;
-
-// The coding of a character; `None` if it has none.
-fn coding_of(number: u32) -> Option<Coding>
-    ensures { result ≡ iso6937_string number }
-{
-    if let Some(byte) = single_byte(number) {
-        return Some(Coding::new(byte));
-    }
-    let (mark, letter) = pair_of(number)?;
-    Coding::new(mark).then(letter)
-}
 
 impl CharacterSet for Iso6937 {
     ghost codings = { λ _. iso6937_codings };
@@ -57,6 +44,10 @@ impl CharacterSet for Iso6937 {
     }
 
     fn write(&self, number: u32) -> Result<Coding, SetRefusal> {
-        Ok(coding_of(number).ok_or(Cause::NoCoding)?)
+        if let Some(byte) = single_byte(number) {
+            return Ok(Coding::new(byte));
+        }
+        let (mark, letter) = pair_of(number).ok_or(Cause::NoCoding)?;
+        Ok(Coding::new(mark).then(letter).unwrap())
     }
 }
