@@ -55,8 +55,8 @@ pub trait CharacterSet {
         ensures { Reads (meaning_of codings openings causes write_causes self.now)
             bytes.now result };
 
-    /// The coding of the character with that code point; else the cause for which it has none, as
-    /// no number above U+10FFFF has one.
+    /// The coding of the character with that code point; else why it has none. No number above
+    /// U+10FFFF has one.
     fn write(&self, number: u32) -> Result<Coding, SetRefusal>
         ensures { Writes (meaning_of codings openings causes write_causes self.now)
             number result };

@@ -18,9 +18,9 @@ const LONGEST_CODING: usize = 4;
 
 /// A set whose bytes are written in another form. A coding below that has a byte with no form, or
 /// takes more than four bytes, has no coding here. A byte that cannot stand where it does is
-/// refused by the form's fault, and a string still open after four bytes with 36. A character is
-/// not written by the form's fault where a byte of its coding below has no form, and by 36 where
-/// its coding takes more than four bytes.
+/// refused by the form's fault, and a string still open after four bytes with 36. To write a
+/// character is refused by the form's fault where its coding below has a byte with no form, and
+/// else with 36 where it takes more than four bytes.
 #[derive(Clone, Copy)]
 pub struct Recoded<F, S> {
     /// How each byte of the set below is written.

@@ -8,7 +8,7 @@ use crate::list::CharacterList;
 use charset::{CharacterSet, Coding, Reading, SetRefusal};
 
 /// The characters of a set that stand on a list, with the codings and openings of that set. Another
-/// character in front is refused with 37, and is not written by 37.
+/// character in front is refused with 37, and so is writing one that the set below can write.
 #[derive(Drop)]
 pub struct Subrepertoire<S> {
     /// The characters that are kept.

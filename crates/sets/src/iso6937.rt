@@ -12,8 +12,8 @@ use table::{accented, letters_of, pair_of, single, single_byte};
 
 /// ISO/IEC 6937:1994 in its 8-bit form, by Table 4: a character is one byte, or a diacritic and the
 /// letter under it. The thirteen diacritics are openings. A byte that is no position in use is
-/// refused with 31, and a diacritic before a byte with which it makes no pair with 32. A character
-/// without a coding is not written, by 38.
+/// refused with 31, and a diacritic before a byte with which it makes no pair with 32. To write a
+/// character without a coding is refused with 38.
 #[derive(Clone, Copy)]
 pub struct Iso6937;
 

@@ -35,8 +35,8 @@ const SAMI: CodeTable = CodeTable { columns: [
 ] };
 
 /// A set of single bytes by its code table, in which no character stands twice. 00 to 1F and 7F to
-/// 9F, as every byte whose position is not in use, are refused with 31. A character without a
-/// coding is not written, by 38.
+/// 9F, as every byte whose position is not in use, are refused with 31. To write a character
+/// without a coding is refused with 38.
 #[derive(Clone, Copy)]
 pub struct SingleByte {
     table: CodeTable,

@@ -13,8 +13,8 @@ use charset::{CharacterSet, Coding, Reading, SetRefusal};
 
 /// UTF-8, by RFC 3629: one to four octets, no overlong forms, no surrogates, nothing above
 /// U+10FFFF. The openings are the proper beginnings of codings. All else is refused with 33, at the
-/// shortest beginning from which no coding can come about. A surrogate, or a number above U+10FFFF,
-/// is not written, by 38.
+/// shortest beginning from which no coding can come about. To write a surrogate, or a number above
+/// U+10FFFF, is refused with 38.
 #[derive(Clone, Copy)]
 pub struct Utf8;
 

@@ -298,34 +298,26 @@ bytes_bare (offer sector out r after ∷ past) =
 bytes_bare (close r ∷ past) = bytes_bare past
 bytes_bare (status r ∷ past) = bytes_bare past
 
+same_but : (t u : Told) → u ≡ record t { cause = u.cause; depth = u.depth } → TellSame t u
+same_but t u e = record {
+  number = sym (ap (λ z. z.number) e);
+  offset = sym (ap (λ z. z.offset) e);
+  character = sym (ap (λ z. z.character) e);
+  taken = sym (ap (λ z. z.taken) e);
+  written = sym (ap (λ z. z.written) e);
+}
+
 told_bare : (f : FaultAt) → TellSame (told_fault f) (told_fault (bare_at f))
-told_bare f = go f.fault refl
+told_bare f = same_but (told_fault f) (told_fault (bare_at f)) (go f.fault refl)
   where
-    go : (x : Fault) → f.fault ≡ x → TellSame (told_fault f) (told_fault (bare_at f))
-    go (Unread q) e =
-        rw e (record {
-          number = refl;
-          offset = refl;
-          character = refl;
-          taken = refl;
-          written = refl;
-        })
-    go (Unwritten c q) e =
-        rw e (record {
-          number = refl;
-          offset = refl;
-          character = refl;
-          taken = refl;
-          written = refl;
-        })
-    go Unfinished e =
-        rw e (record {
-          number = refl;
-          offset = refl;
-          character = refl;
-          taken = refl;
-          written = refl;
-        })
+    go : (x : Fault) → f.fault ≡ x
+        → told_fault (bare_at f) ≡ record (told_fault f) {
+          cause = (told_fault (bare_at f)).cause;
+          depth = (told_fault (bare_at f)).depth;
+        }
+    go (Unread q) e = rw e refl
+    go (Unwritten c q) e = rw e refl
+    go Unfinished e = rw e refl
 
 tell_same : (t u v w : Told) → TellSame t u → u ≡ v → TellSame w v → TellSame t w
 tell_same t u v w h e k = record {
