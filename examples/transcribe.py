@@ -68,8 +68,9 @@ class Refused(Exception):
 
     def __init__(self, answer):
         place = f" at offset {answer.offset}" if answer.number in (6, 7, 9) else ""
-        cause = f", cause {answer.cause}" if answer.cause else ""
-        super().__init__(f"refused {answer.number}{place}{cause}")
+        what = f": no coding for U+{answer.character:04X}" if answer.number == 7 else ""
+        cause = f", cause {answer.cause}, depth {answer.depth}" if answer.cause else ""
+        super().__init__(f"refused {answer.number}{place}{what}{cause}")
         self.answer = answer
 
 

@@ -46,7 +46,7 @@ struct finetalc_answer {
     uint8_t number;     /* 0 after a call that succeeds; also where memory was wanting */
     /* 4: the number of the fault that stands; then all other values are those of that fault */
     uint8_t standing;
-    /* 6: why the bytes are no character, 31 to 37; 7: why the target cannot have it, 34 to 38 */
+    /* 6: why the bytes are no character, 31 to 37; 7: why the target has no coding, 37 or 38 */
     uint8_t cause;
     uint8_t depth;      /* 6, 7: how many layers lie above the one that says so */
 };

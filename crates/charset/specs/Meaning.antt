@@ -20,8 +20,8 @@ pub record Meaning : Type 0 where
   pub write_causes : ℕ → SetRefusal
 
 -- the four parts as one
-abbrev pub meaning : Codings → (List ℕ → Bool) → (List ℕ → SetRefusal) → (ℕ → SetRefusal)
-    → Meaning
+abbrev pub meaning : Codings → (List ℕ → Bool) → (List ℕ → SetRefusal)
+    → (ℕ → SetRefusal) → Meaning
 meaning k o q w = record { codings = k; openings = o; causes = q; write_causes = w }
 
 -- the meaning of x, by what says each part of it
@@ -45,7 +45,7 @@ NoFront m s = (n c : ℕ) → Codes m (take n s) c → ⊥
 abbrev pub Unreadable : Meaning → List ℕ → Type 0
 Unreadable m s = NoFront m s × (m.openings s ≡ false)
 
--- c has no coding: the characters that have a cause
+-- c has no coding: the numbers that have a cause of writing
 abbrev pub HasNoCoding : Meaning → ℕ → Type 0
 HasNoCoding m c = m.codings.string c ≡ None
 
@@ -83,5 +83,5 @@ pub record Laws (m : Meaning) : Type 0 where
   pub cause_sized : (s : List ℕ) → Unreadable m s → IsTwoBytes (m.causes s)
   pub cause_stays : (s : List ℕ) (n : ℕ) → Unreadable m (take n s)
       → m.causes s ≡ m.causes (take n s)
-  -- the cause of a character is two bytes too
+  -- the cause of a number that has no coding is two bytes too
   pub write_cause_sized : (c : ℕ) → HasNoCoding m c → IsTwoBytes (m.write_causes c)

@@ -1,5 +1,5 @@
-//! What a character set is: its codings, openings and causes, the laws that every set keeps, and
-//! what reading and writing answer.
+//! What a character set is: its codings, openings and causes, of reading and of writing, the laws
+//! that every set keeps, and what reading and writing answer.
 #![tactic(auto)]
 
 ghost use Rattle.std.specs.Prelude.{ℕ, Bool, List};

@@ -38,6 +38,10 @@ write_examples = record {
   shift_list = (refl, refl);
   shift_parity = (refl, refl);
   shift_set = (refl, refl);
+  list_itself = (refl, refl);
+  list_shift = (refl, refl);
+  controls_list = (refl, refl);
+  controls_shift = (refl, refl);
   deepest = (refl, refl);
 }
 

@@ -16,7 +16,7 @@ use Rattle.conversion.specs.Stops.{End, Stops, Reaches}
 use Rattle.transcript.specs.declared.answers.Refusal.TheVariants.{Faulted}
 use Rattle.transcript.specs.declared.answers.State.TheVariants.{Open}
 use Rattle.transcript.specs.declared.answers.State.TheVariants as state
-use Rattle.transcript.specs.Calls.{done, fault_at}
+use Rattle.transcript.specs.Calls.{done}
 use Rattle.transcript.specs.Uses.{start, offer, Use, made, call}
 use Rattle.examples.proofs.ShownSets.{by_reading}
 use Rattle.examples.proofs.ShownSets.{set_examples}
@@ -92,7 +92,8 @@ cedilla_offered = call made (record {
   target = 0x41 ∷ [];
   end = Err no_cedilla_there.fault;
   reaches =
-      reaching (0x41 ∷ 0xcb ∷ 0x73 ∷ []) 2 (Err no_cedilla_there.fault) (0x41 ∷ []) (0x41 ∷ [])
+      reaching (0x41 ∷ 0xcb ∷ 0x73 ∷ []) 2 (Err no_cedilla_there.fault) (0x41 ∷ [])
+      (0x41 ∷ [])
       (0x41 ∷ []) (0xcb ∷ 0x73 ∷ []) (0x41 ∷ [], [], refl, refl, refl)
       (0x41 ∷ [], [], refl, refl, refl) refl (omega arith) (2, cedilla_read, (refl, refl));
   answer = refl;
@@ -110,5 +111,6 @@ worked_examples = record {
   letter_next = letter_offered;
   no_cedilla = cedilla_offered;
   acute_closed = call acute_offered (refl, refl);
-  numbers = (refl, refl, refl);
+  numbers = (refl, refl, refl, refl);
+  standing = (refl, refl, refl, refl);
 }

@@ -1,5 +1,5 @@
 -- Worked examples.
-use Rattle.std.specs.Prelude.{◌≡◌, ℕ, true, List, [], ◌∷◌, Some, Ok, Err, replicate}
+use Rattle.std.specs.Prelude.{◌≡◌, ℕ, true, [], ◌∷◌, Some, Ok, Err, replicate}
 use Rattle.charset.specs.declared.Reading.TheVariants.{Found, Open}
 use Rattle.charset.specs.Meaning.{Meaning}
 use Rattle.charset.specs.Answers.{ReadAnswer, Reads, Writes}
@@ -17,14 +17,17 @@ refused n d = Err (record { cause = n; depth = d })
 abbrev pub CannotWrite : Meaning → (c cause depth : ℕ) → Type 0
 CannotWrite m c n d = Writes m c (Err (record { cause = n; depth = d }))
 
--- a set with all of U+0000 to U+001F beside the 74 characters of every list
+-- the controls, all chosen, over a set; and the 74 characters of every list below them
 abbrev pub with_controls : Meaning → Meaning
-with_controls m = controls (replicate 32 true) (sub required m)
+with_controls m = controls (replicate 32 true) m
+
+abbrev pub with_both : Meaning → Meaning
+with_both m = with_controls (sub required m)
 
 pub record WriteExamples : Type 0 where
   -- parity over ISO/IEC 6937: e with acute, C2 65 below
   pub parity_e_acute : CannotWrite (parity iso6937) 0xe9 34 0
-  -- the 74 characters over it: e with acute, and a character that it does not have
+  -- the 74 characters over ISO/IEC 6937: e with acute, and a character that it does not have
   pub unlisted_e_acute : CannotWrite (sub required iso6937) 0xe9 37 0
   pub unlisted_one : CannotWrite (sub required iso6937) 0x4e00 38 1
   -- shift over UTF-8: a byte 19; three bytes that take six; and a byte 80 behind three that do
@@ -32,18 +35,25 @@ pub record WriteExamples : Type 0 where
   pub six_bytes : CannotWrite (shift utf8) 0x820 36 0
   pub forbidden_first : CannotWrite (shift utf8) 0x20800 35 0
   -- three layers, as those of 7-bit text with parity
-  pub three_deep : CannotWrite (parity (controls (replicate 32 true) (shift iso6937))) 0x4e00 38 3
-  -- four layers, parity at the top: shift's own causes, the list's, and UTF-8's for a surrogate
-  pub parity_shift : CannotWrite (parity (with_controls (shift utf8))) 0x19 35 3
-  pub parity_long : CannotWrite (parity (with_controls (shift utf8))) 0x820 36 3
-  pub parity_list : CannotWrite (parity (with_controls (shift utf8))) 0x21 37 2
-  pub parity_set : CannotWrite (parity (with_controls (shift utf8))) 0xd800 38 4
-  -- four layers, shift at the top: its own cause for a control that is added, the list's, parity's,
-  -- and that of ISO/IEC 6937
-  pub shift_control : CannotWrite (shift (with_controls (parity iso6937))) 0x19 35 0
-  pub shift_list : CannotWrite (shift (with_controls (parity iso6937))) 0x21 37 2
-  pub shift_parity : CannotWrite (shift (with_controls (parity iso6937))) 0xe9 34 3
-  pub shift_set : CannotWrite (shift (with_controls (parity iso6937))) 0x4e00 38 4
+  pub three_deep : CannotWrite (parity (with_controls (shift iso6937))) 0x4e00 38 3
+  -- four layers, parity at the top, which has none of its own over seven bits: shift's causes (a
+  -- byte 19 alone is open in shift, so that control is not added), the list's, and UTF-8's for a
+  -- surrogate
+  pub parity_shift : CannotWrite (parity (with_both (shift utf8))) 0x19 35 3
+  pub parity_long : CannotWrite (parity (with_both (shift utf8))) 0x820 36 3
+  pub parity_list : CannotWrite (parity (with_both (shift utf8))) 0x21 37 2
+  pub parity_set : CannotWrite (parity (with_both (shift utf8))) 0xd800 38 4
+  -- shift at the top: its own cause for a control that is added, the list's, parity's, and that of
+  -- ISO/IEC 6937
+  pub shift_control : CannotWrite (shift (with_both (parity iso6937))) 0x19 35 0
+  pub shift_list : CannotWrite (shift (with_both (parity iso6937))) 0x21 37 2
+  pub shift_parity : CannotWrite (shift (with_both (parity iso6937))) 0xe9 34 3
+  pub shift_set : CannotWrite (shift (with_both (parity iso6937))) 0x4e00 38 4
+  -- the list at the top: its own, and shift's from below; controls at the top: all from below
+  pub list_itself : CannotWrite (sub required (with_controls (parity (shift utf8)))) 0x21 37 0
+  pub list_shift : CannotWrite (sub required (with_controls (parity (shift utf8)))) 0x820 36 3
+  pub controls_list : CannotWrite (with_both (parity (shift utf8))) 0x21 37 1
+  pub controls_shift : CannotWrite (with_both (parity (shift utf8))) 0x85 35 3
   -- a set whose cause of writing is as deep as can be
   pub deepest : CannotWrite (parity odd) 0x42 78 255
 

@@ -5,7 +5,7 @@ use Rattle.sets.specs.SingleByte.{single_byte}
 use Rattle.sets.specs.SingleByteTables.{iso8859_16}
 use Rattle.conversion.specs.declared.Fault.TheVariants.{Unwritten, Unfinished}
 use Rattle.transcript.specs.declared.answers.FaultAt.{FaultAt}
-use Rattle.transcript.specs.declared.answers.Refusal.TheVariants.{Faulted}
+use Rattle.transcript.specs.declared.answers.Refusal.TheVariants.{Faulted, Standing}
 use Rattle.transcript.specs.declared.answers.State.TheVariants.{Open}
 use Rattle.transcript.specs.declared.answers.State.TheVariants as state
 use Rattle.transcript.specs.declared.TheConstants.{LONGEST_SECTOR, LONGEST_OUTPUT, LONGEST_SOURCE}
@@ -64,4 +64,10 @@ pub record WorkedExamples : Type 0 where
       })
   pub numbers : ((told (Faulted no_cedilla_there)).number ≡ 7)
       × ((told (Faulted no_cedilla_there)).cause ≡ 38)
+      × ((told (Faulted no_cedilla_there)).depth ≡ 0)
       × ((told (Faulted (fault_at Unfinished 0 0 0))).number ≡ 9)
+  -- and the same inside a 4
+  pub standing : ((told (Standing no_cedilla_there)).number ≡ 4)
+      × ((told (Standing no_cedilla_there)).standing ≡ 7)
+      × ((told (Standing no_cedilla_there)).cause ≡ 38)
+      × ((told (Standing no_cedilla_there)).depth ≡ 0)

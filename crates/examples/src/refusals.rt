@@ -138,7 +138,7 @@ fn causes_of_writing_in_words(rt: HostRuntime) -> Result<(), Fail> {
             depth: 0,
         },
         "offset 1: C3 A9: U+00E9 has no coding in iso6937-basic: \
-        its coding has a byte from 80 up, to which parity cannot be added \
+        its coding below has a byte from 80 up, to which parity cannot be added \
         (refusal 7, cause 34, depth 0)",
     )?;
     says_unwritten(
@@ -150,7 +150,7 @@ fn causes_of_writing_in_words(rt: HostRuntime) -> Result<(), Fail> {
             depth: 1,
         },
         "offset 1: C2 80: U+0080 has no coding in iso6937-basic: \
-        its coding has a byte 19, or one from 80 to 9F, which cannot be shifted \
+        its coding below has a byte 19, or one from 80 to 9F, which cannot be shifted \
         (refusal 7, cause 35, depth 1)",
     )?;
     says_unwritten(
@@ -162,7 +162,7 @@ fn causes_of_writing_in_words(rt: HostRuntime) -> Result<(), Fail> {
             depth: 2,
         },
         "offset 1: E0 A0 A0: U+0820 has no coding in iso6937-basic: \
-        its coding is over four bytes once it is shifted (refusal 7, cause 36, depth 2)",
+        its coding below is over four bytes once it is shifted (refusal 7, cause 36, depth 2)",
     )?;
     says_unwritten(
         &rt,

@@ -28,7 +28,8 @@ abbrev bytes_of : WrittenByte → List ℕ
 bytes_of (One x) = x ∷ []
 bytes_of (Two x y) = x ∷ y ∷ []
 
-before_some : (f : WrittenByte) (o : Option (List ℕ)) → before (Some f) o ≡ ahead (bytes_of f) o
+before_some : (f : WrittenByte) (o : Option (List ℕ))
+    → before (Some f) o ≡ ahead (bytes_of f) o
 before_some (One x) None = refl
 before_some (One x) (Some v) = refl
 before_some (Two x y) None = refl
@@ -40,7 +41,8 @@ before_none (Some v) = refl
 
 -- one more byte behind at most four
 one_more : (u : List ℕ) (x : ℕ)
-    → option_and_then (λ w. with_byte w x) (at_most_four (Some u)) ≡ at_most_four (Some (u ++ x ∷ []))
+    → option_and_then (λ w. with_byte w x) (at_most_four (Some u))
+    ≡ at_most_four (Some (u ++ x ∷ []))
 one_more u x =
     let size : length (u ++ x ∷ []) ≡ length u + 1 = length-append u (x ∷ []) in
     elim (cases_lt (length u) 4) [
@@ -63,7 +65,8 @@ one_more u x =
     ]
 
 then_then : {X Y Z : Type 0} (f : X → Option Y) (g : Y → Option Z) (o : Option X)
-    → option_and_then (λ x. option_and_then g (f x)) o ≡ option_and_then g (option_and_then f o)
+    → option_and_then (λ x. option_and_then g (f x)) o
+    ≡ option_and_then g (option_and_then f o)
 then_then f g None = refl
 then_then f g (Some x) = refl
 
@@ -82,7 +85,8 @@ pub record Made (r : Recoding) (t : List ℕ) (i : ℕ) (o : Option (List ℕ)) 
   pub whole : in_form r t ≡ ahead u (in_form r (drop i t))
   pub kept : o ≡ at_most_four (Some u)
 
-pub made_none : (r : Recoding) (t : List ℕ) (o : Option (List ℕ)) → o ≡ Some [] → Made r t 0 o
+pub made_none : (r : Recoding) (t : List ℕ) (o : Option (List ℕ)) → o ≡ Some []
+    → Made r t 0 o
 made_none r t o e = record { u = []; whole = ahead_nothing (in_form r t); kept = e }
 
 module _ (r : Recoding) (t : List ℕ) (i : ℕ) (o : Option (List ℕ)) (made : Made r t i o) where

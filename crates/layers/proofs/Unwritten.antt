@@ -4,10 +4,12 @@ use Rattle.std.proofs.Common.{length, Some, None, Err, Option, sym, refl, ap, in
 use Rattle.std.proofs.lemmas.Bool.{cases_lt, le-leb, lt-leb}
 use Rattle.std.proofs.lemmas.Option.{none-some}
 use Rattle.charset.specs.Strings.{AreBytes}
-use Rattle.charset.specs.Meaning.{Meaning, HasNoCoding, Laws}
+use Rattle.charset.specs.Meaning.{Meaning, HasNoCoding}
 use Rattle.charset.specs.Answers.{Writes}
 use Rattle.layers.specs.declared.recoding.moves.WrittenByte.{WrittenByte}
 use Rattle.layers.specs.declared.recoding.moves.WrittenByte.TheVariants.{One, Two}
+use Rattle.layers.specs.declared.cause.Cause.TheVariants.{TooLong}
+use Rattle.layers.specs.Causes.{refusal}
 use Rattle.layers.specs.Depth.{own, up}
 use Rattle.layers.specs.Recoding.{Recoding, before, in_form, at_most_four, coding_of, recoded}
 
@@ -37,7 +39,8 @@ module _ (r : Recoding) where
       go (Some (One x)) h (Some u) g e = cc
       go (Some (Two x y)) h (Some u) g e = cc
 
-  no_form : (p rest : List ℕ) (b : ℕ) → r.form b ≡ None → in_form r (p ++ b ∷ rest) ≡ None
+  no_form : (p rest : List ℕ) (b : ℕ) → r.form b ≡ None
+      → in_form r (p ++ b ∷ rest) ≡ None
   no_form [] rest b h = rw h (go (in_form r rest))
     where
       go : (o : Option (List ℕ)) → before None o ≡ None
@@ -45,7 +48,7 @@ module _ (r : Recoding) where
       go (Some s) = refl
   no_form (x ∷ p) rest b h = rw (no_form p rest b h) refl
 
-  module _ (m : Meaning) (l : Laws m) (c : ℕ) where
+  module _ (m : Meaning) (c : ℕ) where
     pub passes_up : HasNoCoding m c → Writes (recoded r m) c (Err (up (m.write_causes c)))
     passes_up e = (rw e refl, rw e refl)
 
@@ -55,7 +58,7 @@ module _ (r : Recoding) where
         let none = no_form p rest b h in (rw (e, none) refl, rw (e, none) refl)
 
     pub own_length : (t s : List ℕ) → m.codings.string c ≡ Some t → in_form r t ≡ Some s
-        → 4 < length s → Writes (recoded r m) c (Err (own 36))
+        → 4 < length s → Writes (recoded r m) c (Err (refusal TooLong))
     own_length t s e f h = (rw (e, f, lt-leb (length s) 4 h) refl, rw (e, f) refl)
 
     -- it has no coding below, or one with a byte that has no form, or one that is too long

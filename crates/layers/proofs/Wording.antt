@@ -381,10 +381,10 @@ parity_meaning m l = record {
         kind f.0 f.2 (byte_at f.0 f.1 f.2 (rw f.3 at b))
             (fault parity_agrees m l f.0 f.2 f.4 f.5),
       );
-  unwritten_below = passes_up parity_bytes m l;
+  unwritten_below = passes_up parity_bytes m;
   eight_bits = λ c h.
-      own_fault parity_bytes m l c h.0 h.1 h.2 (l.read _ c h.3) (eight_formless h.2 h.4);
-  write_causes_only = λ c h. elim (nothing_else parity_bytes m l c h) [
+      own_fault parity_bytes m c h.0 h.1 h.2 (l.read _ c h.3) (eight_formless h.2 h.4);
+  write_causes_only = λ c h. elim (nothing_else parity_bytes m c h) [
     | inl e ↦ inl e
     | inr w ↦ elim w.2 [
       | inl f ↦ inr (
@@ -459,12 +459,12 @@ shift_meaning m l = record {
   causes_only =
       λ s u. let f = first_fault (shift m) (shift_laws l).empty_opens s u in
       (f.0, f.1, f.2, f.3, f.4, kind f.0 f.2 (fault shift_agrees m l f.0 f.2 f.4 f.5));
-  unwritten_below = passes_up shift_bytes m l;
+  unwritten_below = passes_up shift_bytes m;
   forbidden_byte = λ c h.
-      own_fault shift_bytes m l c h.0 h.1 h.2 (l.read _ c h.3) (forbidden_formless h.2 h.4);
+      own_fault shift_bytes m c h.0 h.1 h.2 (l.read _ c h.3) (forbidden_formless h.2 h.4);
   shifts_too_long = λ c h.
-      own_length shift_bytes m l c h.0 h.1 (l.read _ c h.2) (shifts_in_form h.0 h.1 h.3) h.4;
-  write_causes_only = λ c h. elim (nothing_else shift_bytes m l c h) [
+      own_length shift_bytes m c h.0 h.1 (l.read _ c h.2) (shifts_in_form h.0 h.1 h.3) h.4;
+  write_causes_only = λ c h. elim (nothing_else shift_bytes m c h) [
     | inl e ↦ inl e
     | inr w ↦ let p = l.written c w.0 w.1 in elim w.2 [
       | inl f ↦ let q = subst (λ z. Codes m z c) f.3 p in inr (inl (

@@ -1,16 +1,17 @@
 -- A set under another form of its bytes: each byte below is written as one or two bytes here.
 use Rattle.std.specs.Prelude.{◌≡◌, ℕ, ◌<◌, Bool, true, false, cond, not, ◌&&◌, List}
-use Rattle.std.specs.Prelude.{[], ◌∷◌, length, take, Some, None, Ok, Err, Option, ◌≢◌, nat_le}
+use Rattle.std.specs.Prelude.{[], ◌∷◌, length, take, Some, None, Option, ◌≢◌, nat_le}
+use Rattle.std.specs.Prelude.{option_and_then}
 use Rattle.charset.specs.declared.SetRefusal.{SetRefusal}
 use Rattle.charset.specs.Meaning.{Meaning}
-use Rattle.charset.specs.Answers.{WriteAnswer, reading, writing}
+use Rattle.charset.specs.Answers.{reading, writing}
 use Rattle.layers.specs.declared.recoding.moves.Move.{Move}
 use Rattle.layers.specs.declared.recoding.moves.Move.TheVariants.{Emit, Hold}
 use Rattle.layers.specs.declared.recoding.moves.WrittenByte.{WrittenByte}
 use Rattle.layers.specs.declared.recoding.moves.WrittenByte.TheVariants.{One, Two}
 use Rattle.layers.specs.declared.cause.Cause.TheVariants.{TooLong}
 use Rattle.layers.specs.Causes.{number_of}
-use Rattle.layers.specs.Depth.{own, up, over}
+use Rattle.layers.specs.Depth.{own, over}
 
 -- how a string ends: between bytes below, within one, or after a byte that cannot stand there
 pub data End : Type 0 where
@@ -81,16 +82,16 @@ scan_cause r m s =
     over (reading m (below r false s))
     (own (cond (is_broken (ends r false s)) r.fault (number_of TooLong)))
 
--- why a coding below, as it is written here, is no coding: a byte of it cannot be written, which
--- goes first, or it takes more than four bytes
+-- why a coding below has none here, by its form; asked only where it has none: a byte of it cannot
+-- be written, which goes first, or it takes more than four bytes
 abbrev pub form_cause : Recoding → Option (List ℕ) → ℕ
 form_cause r None = r.fault
 form_cause r (Some s) = number_of TooLong
 
--- the cause of a character: the one from below, or why its coding below is none here
-abbrev pub write_cause : Recoding → WriteAnswer → SetRefusal
-write_cause r (Err q) = up q
-write_cause r (Ok t) = own (form_cause r (in_form r t))
+-- the cause of a character: the one from below, or why its coding below has none here
+abbrev pub write_cause : Recoding → Meaning → ℕ → SetRefusal
+write_cause r m c =
+    over (writing m c) (own (form_cause r (option_and_then (in_form r) (m.codings.string c))))
 
 -- the set below, its bytes in that form
 abbrev pub recoded : Recoding → Meaning → Meaning
@@ -105,7 +106,7 @@ recoded r m = record {
       λ s. nat_le (length s) 3 && (not (is_broken (ends r false s)) && m.openings
       (below r false s));
   causes = λ s. scan_cause r m (take 4 s);
-  write_causes = λ c. write_cause r (writing m c);
+  write_causes = write_cause r m;
 }
 
 -- what the bytes' two directions must agree on

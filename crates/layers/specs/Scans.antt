@@ -29,7 +29,7 @@ abbrev pub extended : List ℕ → WrittenByte → Option (List ℕ)
 extended u (One x) = with_byte u x
 extended u (Two x y) = option_and_then (λ v. with_byte v y) (with_byte u x)
 
--- the same behind a string that has at most four bytes already
+-- the same behind a string, or nothing where that is over four bytes already
 abbrev pub extended_if : Option (List ℕ) → WrittenByte → Option (List ℕ)
 extended_if o f = option_and_then (λ u. extended u f) o
 

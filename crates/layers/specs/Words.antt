@@ -76,14 +76,16 @@ abbrev pub HasByte : (Fault : ℕ → Type 0) → Meaning → ℕ → Type 0
 HasByte Fault m c =
     (p rest : List ℕ) × (b : ℕ) × Codes m (p ++ b ∷ rest) c × Fault b
 
--- a byte that parity cannot write, and one that shift cannot
+-- b is from 80 up: parity cannot write it
 abbrev pub IsEightBit : ℕ → Type 0
 IsEightBit b = 0x80 ≤ b
 
+-- b is 19, or from 80 to 9F: shift cannot write it
 abbrev pub IsForbidden : ℕ → Type 0
 IsForbidden b = (b ≡ 0x19) ⊎ ((0x80 ≤ b) × (b < 0xa0))
 
--- c has a coding below that is over four bytes once it is shifted
+-- c has a coding below that is over four bytes once it is shifted; none of its bytes is forbidden,
+-- since it can be shifted
 abbrev pub ShiftsTooLong : Meaning → ℕ → Type 0
 ShiftsTooLong m c = (t s : List ℕ) × Codes m t c × Shifts t s × (4 < length s)
 

@@ -10,8 +10,8 @@ use charset::SetRefusal;
 pub enum Cause {
     /// Parity: a byte has an odd number of ones. Writing: the coding below has a byte from 80 up.
     OddParity = 34,
-    /// Shift: a byte from 80 up, or 19 before anything but 20 to 7F. Writing: the coding below has a
-    /// 19, or a byte from 80 to 9F.
+    /// Shift: a byte from 80 up, or 19 before anything but 20 to 7F. Writing: the coding below has
+    /// a 19, or a byte from 80 to 9F.
     NotShifted = 35,
     /// Shift: still open after four bytes. Writing: more than four bytes once shifted.
     TooLong = 36,

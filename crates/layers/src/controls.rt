@@ -10,8 +10,8 @@ use crate::deeper::from_below;
 use charset::{CharacterSet, Coding, Reading, SetRefusal};
 
 /// A set with control characters beside its own, each by its own byte: those chosen that the set
-/// below refuses alone and does not write. Openings are those below, and so are the causes, one
-/// layer up.
+/// below refuses alone and does not write. Openings are those below, and so are the causes, of
+/// reading and of writing, one layer up.
 #[derive(Clone, Copy)]
 pub struct Controls<S> {
     /// Whether each of U+0000 to U+001F is chosen.
@@ -21,8 +21,8 @@ pub struct Controls<S> {
 }
 
 impl<S: CharacterSet> Controls<S> {
-    // Whether the set below cannot read a byte alone. Asked of few bytes: without it, reading and
-    // writing the others is faster.
+    // Whether the set below cannot read a byte alone. Kept out of line: few bytes are asked about,
+    // and to read and write the others is faster so.
     #[inline(never)]
     fn is_refused_below(&self, byte: u8) -> bool
         ensures { result ≡ is_err (reading (set_of S.CharacterSet self.now.below) (byte ∷ [])) }

@@ -124,9 +124,6 @@ impl<F: ByteForm, S: CharacterSet> CharacterSet for Recoded<F, S> {
     fn write(&self, number: u32) -> Result<Coding, SetRefusal> {
         let below = self.below.write(number).map_err(from_below)?;
         let front = recode(&self.form, below.as_bytes())?;
-        let Some(coding) = Coding::of(front) else {
-            unreachable!()
-        };
-        Ok(coding)
+        Ok(Coding::of(front).unwrap())
     }
 }

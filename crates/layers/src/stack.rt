@@ -1,6 +1,6 @@
 //! Putting a layer on a set. What is returned means that layer on the set below, keeps the laws as
-//! the set below does, and means just what its last clause says. What the set below refuses, to
-//! read or to write, is refused here with the same cause, one layer deeper.
+//! the set below does, and means just what its last clause says. A cause of the set below is told
+//! here by the same number, one layer deeper; the functions name the causes of the layers' own.
 ghost use Rattle.std.specs.Prelude.{◌≡◌};
 ghost use Rattle.charset.specs.Meaning.{Laws};
 ghost use Rattle.charset.specs.Sets.{set_of};
@@ -21,8 +21,8 @@ pub type Parity<S> = Recoded<EvenParity, S>;
 pub type Shift<S> = Recoded<SingleShift, S>;
 
 /// Puts even parity on a set: each byte of a coding, below 80, gets a top bit that makes its number
-/// of ones even. A byte with an odd number of ones is refused with 34, and so is writing a character
-/// whose coding below has a byte from 80 up.
+/// of ones even. A byte with an odd number of ones is refused with 34, and so is writing a
+/// character whose coding below has a byte from 80 up.
 pub fn with_parity<S: CharacterSet>(below: S) -> Parity<S>
     ensures on { result.below ≡ below }
     ensures is_parity { set_of ⟦<Parity<S> as CharacterSet>⟧ result
@@ -38,8 +38,8 @@ pub fn with_parity<S: CharacterSet>(below: S) -> Parity<S>
 
 /// Puts the set in seven bits, as Annex A of ISO/IEC 6937 does: a byte from A0 to FF becomes 19 and
 /// that byte less 80. A byte that cannot stand where it does is refused with 35, and a string still
-/// open after four bytes with 36. To write a character is refused with 35 where its coding below has
-/// a byte 19 or one from 80 to 9F, and else with 36 where it takes more than four bytes.
+/// open after four bytes with 36. To write a character is refused with 35 where its coding below
+/// has a byte 19 or one from 80 to 9F, and else with 36 where it takes more than four bytes.
 pub fn with_shift<S: CharacterSet>(below: S) -> Shift<S>
     ensures on { result.below ≡ below }
     ensures is_shift { set_of ⟦<Shift<S> as CharacterSet>⟧ result
@@ -54,7 +54,7 @@ pub fn with_shift<S: CharacterSet>(below: S) -> Shift<S>
 }
 
 /// Adds the chosen control characters, U+0000 to U+001F by number, each by its own byte, where the
-/// set below refuses that byte alone and does not write that character.
+/// set below refuses that byte alone and does not write that character. It has no cause of its own.
 pub fn with_controls<S: CharacterSet>(chosen: [bool; 32], below: S) -> Controls<S>
     ensures on { (result.below ≡ below) × (result.chosen ≡ chosen) }
     ensures is_controls { set_of ⟦<Controls<S> as CharacterSet>⟧ result
@@ -65,8 +65,8 @@ pub fn with_controls<S: CharacterSet>(chosen: [bool; 32], below: S) -> Controls<
     Controls { chosen, below }
 }
 
-/// Keeps of a set the characters on a list. Another character in front is refused with 37, and so is
-/// writing one that the set below can write.
+/// Keeps of a set the characters on a list. Another character in front is refused with 37, and so
+/// is writing one that the set below can write.
 pub fn with_list<S: CharacterSet>(list: CharacterList, below: S) -> Subrepertoire<S>
     ensures on { (result.below ≡ below) × (result.list ≡ list) }
     ensures is_subrepertoire { set_of ⟦<Subrepertoire<S> as CharacterSet>⟧ result

@@ -8,7 +8,8 @@ use crate::list::CharacterList;
 use charset::{CharacterSet, Coding, Reading, SetRefusal};
 
 /// The characters of a set that stand on a list, with the codings and openings of that set. Another
-/// character in front is refused with 37, and so is writing one that the set below can write.
+/// character in front is refused with 37, and so is writing one that the set below can write; one
+/// that it cannot is refused as there, one layer up.
 #[derive(Drop)]
 pub struct Subrepertoire<S> {
     /// The characters that are kept.

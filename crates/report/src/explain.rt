@@ -63,28 +63,28 @@ impl fmt::Display for FaultWords<'_> {
             write!(f, " {byte:02X}")?;
         }
         f.write_str(": ")?;
-        match at.fault {
-            Fault::Unread(SetRefusal { cause, depth }) => {
-                let words = cause_words(cause, bytes);
-                write!(
-                    f,
-                    "{words} (refusal {number}, cause {cause}, depth {depth})"
-                )
+        let refusal = match at.fault {
+            Fault::Unread(refusal) => {
+                let words = cause_words(refusal.cause, bytes);
+                write!(f, "{words}")?;
+                Some(refusal)
             }
             Fault::Unwritten { character, refusal } => {
-                let SetRefusal { cause, depth } = refusal;
                 let target = form_name(target);
-                let words = write_cause_words(cause);
+                let words = write_cause_words(refusal.cause);
                 write!(f, "U+{character:04X} has no coding in {target}: {words}")?;
-                write!(f, " (refusal {number}, cause {cause}, depth {depth})")
+                Some(refusal)
             }
             Fault::Unfinished => {
-                write!(
-                    f,
-                    "bytes at the very end that wait for more (refusal {number})"
-                )
+                f.write_str("bytes at the very end that wait for more")?;
+                None
             }
+        };
+        write!(f, " (refusal {number}")?;
+        if let Some(SetRefusal { cause, depth }) = refusal {
+            write!(f, ", cause {cause}, depth {depth}")?;
         }
+        f.write_str(")")
     }
 }
 
@@ -125,12 +125,12 @@ fn cause_words(cause: u8, bytes: &[u8]) -> CauseWords {
 /// What a cause says of a character that a set or a layer cannot write.
 fn write_cause_words(cause: u8) -> &'static str {
     match cause {
-        34 => "its coding has a byte from 80 up, to which parity cannot be added",
-        35 => "its coding has a byte 19, or one from 80 to 9F, which cannot be shifted",
-        36 => "its coding is over four bytes once it is shifted",
+        34 => "its coding below has a byte from 80 up, to which parity cannot be added",
+        35 => "its coding below has a byte 19, or one from 80 to 9F, which cannot be shifted",
+        36 => "its coding below is over four bytes once it is shifted",
         37 => "it is not on the list",
         38 => "the set does not have it",
-        _ => "a cause of no set or layer here",
+        _ => "by a cause of no set or layer here",
     }
 }
 

@@ -11,5 +11,5 @@ refusal Malformed = record { cause = 33; depth = 0 }
 refusal NoCoding = record { cause = 38; depth = 0 }
 
 -- each of these sets has one cause for which a character cannot be written
-abbrev pub no_coding : ℕ → SetRefusal
-no_coding c = refusal NoCoding
+abbrev pub no_coding_cause : ℕ → SetRefusal
+no_coding_cause c = refusal NoCoding

@@ -5,7 +5,7 @@ use Rattle.std.specs.Option.{option_map}
 use Rattle.charset.specs.declared.SetRefusal.{SetRefusal}
 use Rattle.charset.specs.Meaning.{Codings, Meaning, meaning}
 use Rattle.sets.specs.declared.cause.Cause.TheVariants.{NotInUse, NoPair}
-use Rattle.sets.specs.Causes.{refusal, no_coding}
+use Rattle.sets.specs.Causes.{refusal, no_coding_cause}
 use Rattle.sets.specs.Search.{when, or_else, first_in}
 use Rattle.sets.specs.Columns.{character_at, byte_of}
 use Rattle.sets.specs.Iso6937Table.{supplementary, diacritics}
@@ -68,4 +68,4 @@ abbrev pub iso6937_codings : Codings
 iso6937_codings = record { character = iso6937_character; string = iso6937_string }
 
 abbrev pub iso6937 : Meaning
-iso6937 = meaning iso6937_codings iso6937_openings iso6937_causes no_coding
+iso6937 = meaning iso6937_codings iso6937_openings iso6937_causes no_coding_cause

@@ -4,7 +4,7 @@ use Rattle.std.specs.Option.{option_map}
 use Rattle.charset.specs.declared.SetRefusal.{SetRefusal}
 use Rattle.charset.specs.Meaning.{Codings, Meaning, meaning}
 use Rattle.sets.specs.declared.cause.Cause.TheVariants.{NotInUse}
-use Rattle.sets.specs.Causes.{refusal, no_coding}
+use Rattle.sets.specs.Causes.{refusal, no_coding_cause}
 use Rattle.sets.specs.Columns.{character_at, byte_of}
 
 abbrev pub single_byte_character : List (List ℕ) → List ℕ → Option ℕ
@@ -30,4 +30,4 @@ single_byte_causes s = refusal NotInUse
 
 abbrev pub single_byte : List (List ℕ) → Meaning
 single_byte columns =
-    meaning (single_byte_codings columns) single_byte_openings single_byte_causes no_coding
+    meaning (single_byte_codings columns) single_byte_openings single_byte_causes no_coding_cause

@@ -5,7 +5,7 @@ use Rattle.std.specs.Prelude.{None, Option, ◌==◌, nat_le, nat_lt}
 use Rattle.charset.specs.declared.SetRefusal.{SetRefusal}
 use Rattle.charset.specs.Meaning.{Codings, Meaning, meaning, Codes, IsOpening}
 use Rattle.sets.specs.declared.cause.Cause.TheVariants.{Malformed}
-use Rattle.sets.specs.Causes.{refusal, no_coding}
+use Rattle.sets.specs.Causes.{refusal, no_coding_cause}
 use Rattle.sets.specs.Search.{when}
 
 abbrev pub within : ℕ → ℕ → ℕ → Bool
@@ -80,7 +80,7 @@ abbrev pub utf8_codings : Codings
 utf8_codings = record { character = utf8_character; string = utf8_string }
 
 abbrev pub utf8 : Meaning
-utf8 = meaning utf8_codings utf8_openings utf8_causes no_coding
+utf8 = meaning utf8_codings utf8_openings utf8_causes no_coding_cause
 
 -- every opening is a proper beginning of a coding
 abbrev pub OpeningsBeginCodings : Type 0

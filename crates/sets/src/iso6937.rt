@@ -1,5 +1,5 @@
 //! ISO/IEC 6937:1994 in its 8-bit form.
-ghost use Rattle.sets.specs.Causes.{no_coding};
+ghost use Rattle.sets.specs.Causes.{no_coding_cause};
 ghost use Rattle.sets.specs.Iso6937.{iso6937_codings, iso6937_openings, iso6937_causes};
 ghost use Rattle.sets.specs.Laws.Iso6937.{iso6937_laws};
 
@@ -24,7 +24,7 @@ impl CharacterSet for Iso6937 {
 
     ghost causes = { λ _. iso6937_causes };
 
-    ghost write_causes = { λ _. no_coding };
+    ghost write_causes = { λ _. no_coding_cause };
 
     ghost lawful = { λ s. iso6937_laws };
 

@@ -1,6 +1,6 @@
 //! The single-byte sets: ASCII in the lower half, and a table of their own in the upper.
 ghost use Rattle.std.specs.Prelude.{◌≡◌, true};
-ghost use Rattle.sets.specs.Causes.{no_coding};
+ghost use Rattle.sets.specs.Causes.{no_coding_cause};
 ghost use Rattle.sets.specs.Columns.{one_to_one};
 ghost use Rattle.sets.specs.SingleByte.{single_byte_codings, single_byte_openings};
 ghost use Rattle.sets.specs.SingleByte.{single_byte_causes};
@@ -66,7 +66,7 @@ impl CharacterSet for SingleByte {
 
     ghost causes = { λ _. single_byte_causes };
 
-    ghost write_causes = { λ _. no_coding };
+    ghost write_causes = { λ _. no_coding_cause };
 
     ghost lawful = { λ s. single_byte_laws s.table.columns s.unambiguous };
 

@@ -2,7 +2,7 @@
 ghost use Rattle.std.specs.Prelude.{◌≡◌, ◌+◌, ◌-◌, ◌*◌, ◌^◌, ◌<◌};
 ghost use Rattle.std.specs.Prelude.{◌≤◌};
 ghost use Rattle.charset.specs.Answers.{Reads};
-ghost use Rattle.sets.specs.Causes.{no_coding};
+ghost use Rattle.sets.specs.Causes.{no_coding_cause};
 ghost use Rattle.sets.specs.Utf8.{utf8, OpeningsBeginCodings, utf8_codings, utf8_openings};
 ghost use Rattle.sets.specs.Utf8.{utf8_causes, utf8_string, lead, second, tail, low_bits};
 ghost use Rattle.sets.specs.Laws.Utf8.{utf8_laws};
@@ -107,7 +107,7 @@ impl CharacterSet for Utf8 {
 
     ghost causes = { λ _. utf8_causes };
 
-    ghost write_causes = { λ _. no_coding };
+    ghost write_causes = { λ _. no_coding_cause };
 
     ghost lawful = { λ s. utf8_laws };
 

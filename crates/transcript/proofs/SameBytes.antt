@@ -1,7 +1,7 @@
 -- That the causes of writing change nothing but what a 7 says: with these causes left out, a use is
 -- a use between the sets with theirs left out, and of that there is one only.
-use Rattle.std.proofs.Common.{◌≡◌, ℕ, ◌+◌, Bool, true, false, cond, List, [], ◌∷◌, ◌++◌}
-use Rattle.std.proofs.Common.{length, map, Some, None, Ok, Err, sym, refl, ap, ◌∙◌}
+use Rattle.std.proofs.Common.{◌≡◌, ℕ, ◌+◌, Bool, true, false, cond, List, [], ◌∷◌}
+use Rattle.std.proofs.Common.{◌++◌, length, map, Some, None, Ok, Err, sym, refl, ap, ◌∙◌}
 use Rattle.std.proofs.Common.{subst₂, lit<, ltb}
 use Rattle.charset.specs.Meaning.{Meaning, Laws}
 use Rattle.charset.specs.Decoding.{Spells}
@@ -16,21 +16,20 @@ use Rattle.transcript.specs.declared.answers.State.{State}
 use Rattle.transcript.specs.declared.answers.State.TheVariants.{Open, Faulted, Closed}
 use Rattle.transcript.specs.declared.answers.Told.{Told}
 use Rattle.transcript.specs.Told.{told_fault}
-use Rattle.transcript.specs.Calls.{Snapshot, OfferAnswer, CloseAnswer, refused, takes, holds}
+use Rattle.transcript.specs.Calls.{Snapshot, fresh, OfferAnswer, CloseAnswer, refused, takes}
+use Rattle.transcript.specs.Calls.{holds, status_of}
 use Rattle.transcript.specs.Calls.{answers, state_after, offset_of, Worked, OfferedIf, ClosedOn}
 use Rattle.transcript.specs.Uses.{Event, start, offer, close, status, Step, Use, made, call, took}
 use Rattle.transcript.specs.Uses.{wrote, taken_in, written_in}
-use Rattle.transcript.specs.SameBytes.{SameButForWriting, Asked, to_start, to_offer, to_close}
-use Rattle.transcript.specs.SameBytes.{to_tell, asked, SameCalls}
-use Rattle.transcript.specs.SameBytes.{bare_fault, bare_at}
-use Rattle.transcript.specs.SameBytes.{bare_state, bare_refusal, bare_answer, bare_status}
-use Rattle.transcript.specs.SameBytes.{bare_event}
-use Rattle.transcript.specs.SameBytes.{bare_snapshot, TellSame, SameBytes}
+use Rattle.transcript.specs.SameBytes.{SameButForWriteCauses, Asked, to_start, to_offer, to_close}
+use Rattle.transcript.specs.SameBytes.{to_tell, asked, SameCalls, bare_fault, bare_at, bare_state}
+use Rattle.transcript.specs.SameBytes.{bare_refusal, bare_answer, bare_status, bare_event}
+use Rattle.transcript.specs.SameBytes.{bare_snapshot, TellSame, SameUse, SameBytes}
 use Rattle.transcript.proofs.Answered.{one_outcome}
 
 -- ---- a set without its causes of writing
 
-abbrev bare : Meaning → Meaning
+abbrev pub bare : Meaning → Meaning
 bare m = record m { write_causes = λ c. record { cause = 0; depth = 0 } }
 
 bare_laws : {m : Meaning} → Laws m → Laws (bare m)
@@ -52,7 +51,7 @@ bare_laws l = record {
   write_cause_sized = λ c h. (lit< tt, lit< tt);
 }
 
-same_bare : {m n : Meaning} → SameButForWriting m n → bare m ≡ bare n
+pub same_bare : {m n : Meaning} → SameButForWriteCauses m n → bare m ≡ bare n
 same_bare {m} {n} h =
     (λ i. record {
       codings = h.codings i;
@@ -166,7 +165,8 @@ module _ (S T : Meaning) where
       open_bare false false true h = refused_bare refusal.SourceTooLong h
       open_bare false false false h = worked_bare s sector out r after t h
 
-      offered_bare : (q : State) → OfferedIf (refused q s.taken sector out) S T s sector out r after t
+      offered_bare : (q : State)
+          → OfferedIf (refused q s.taken sector out) S T s sector out r after t
           → OfferedIf (refused (bare_state q) s.taken sector out) (bare S) (bare T)
           (bare_snapshot s) sector out (bare_answer r) after (bare_snapshot t)
       offered_bare Open h =
@@ -276,7 +276,8 @@ asked_bare (e ∷ past) = go e (asked_bare past)
     go (close r) h = ap {B = List Asked} (λ z. to_close ∷ z) h
     go (status r) h = ap {B = List Asked} (λ z. to_tell ∷ z) h
 
-did_bare : (r : OfferAnswer) → (took (bare_answer r) ≡ took r) × (wrote (bare_answer r) ≡ wrote r)
+did_bare : (r : OfferAnswer)
+    → (took (bare_answer r) ≡ took r) × (wrote (bare_answer r) ≡ wrote r)
 did_bare (Ok d) = (refl, refl)
 did_bare (Err refusal.SectorTooLong) = (refl, refl)
 did_bare (Err refusal.OutputTooLong) = (refl, refl)
@@ -339,21 +340,66 @@ same_fault (Faulted g) f e =
     )
 same_fault Closed f e = cc
 
+-- two uses by the same calls
+module _ (S T : Meaning) (l : Laws S) (S' T' : Meaning) (from : SameButForWriteCauses S S')
+    (into : SameButForWriteCauses T T') {past past' : List Event} {s s' : Snapshot}
+    (u : Use S T past s) (u' : Use S' T' past' s') (same : SameCalls past past')
+  where
+    same_use : SameUse past past' s s'
+    same_use =
+        let other = subst₂ (λ x y. Use x y (map bare_event past') (bare_snapshot s'))
+        (sym (same_bare from)) (sym (same_bare into)) (use_bare S' T' u') in
+        let calls : SameCalls (map bare_event past) (map bare_event past') =
+        asked_bare past ∙ same ∙ sym (asked_bare past') in
+        let once = used_once (bare S) (bare T) (bare_laws l) (use_bare S T u) other calls in
+        let one = bytes_bare past in
+        let two = bytes_bare past' in
+        record {
+          taken = sym one.0 ∙ ap taken_in once.0 ∙ two.0;
+          written = sym one.1 ∙ ap written_in once.0 ∙ two.1;
+          held = ap (λ z. z.held) once.1;
+          fault = λ f e. same_fault s'.state f
+              (sym (ap (λ z. z.state) once.1) ∙ ap bare_state e);
+          answers = once.0;
+          come_to = once.1;
+        }
+
+-- ---- the same calls are a use
+
+module _ (S T : Meaning) (l : Laws S) where
+  some_closing : (s : Snapshot) (q : State) (held : List ℕ)
+      → (r : CloseAnswer) × (t : Snapshot) × ClosedOn q held s r t
+  some_closing s Open [] = (_, _, (refl, refl))
+  some_closing s Open (b ∷ bs) = (_, _, (refl, refl))
+  some_closing s (Faulted f) held = (_, _, (refl, refl))
+  some_closing s Closed held = (_, _, (refl, refl))
+
+  some_step : (s : Snapshot) (e : Event)
+      → (d : Event) × (t : Snapshot) × (asked e ≡ asked d) × Step S T s d t
+  some_step s start = (start, fresh, refl, refl)
+  some_step s (offer sector out r after) =
+      let o = one_outcome S T l s sector out in
+      (offer sector out o.answer o.out_after, o.after, refl, o.step)
+  some_step s (close r) =
+      let c = some_closing s s.state s.held in (close c.0, c.1, refl, c.2)
+  some_step s (status r) = (status (status_of s), s, refl, (refl, refl))
+
+  some_use : (S' T' : Meaning) {past : List Event} {s : Snapshot} → Use S' T' past s
+      → (past' : List Event) × (s' : Snapshot) × Use S T past' s' × SameCalls past past'
+  some_use S' T' made = (start ∷ [], fresh, made, refl)
+  some_use S' T' (call {e = e} u p) =
+      let i = some_use S' T' u in
+      let d = some_step i.1 e in
+      (d.0 ∷ i.0, d.1, call i.2 d.3, (λ j. d.2 j ∷ i.3 j))
+
 pub same_bytes : (S T : Meaning) → Laws S → SameBytes S T
-same_bytes S T l S' T' past past' s s' from into u u' same =
-    let other = subst₂ (λ x y. Use x y (map bare_event past') (bare_snapshot s'))
-    (sym (same_bare from)) (sym (same_bare into)) (use_bare S' T' u') in
-    let calls : SameCalls (map bare_event past) (map bare_event past') =
-    asked_bare past ∙ same ∙ sym (asked_bare past') in
-    let once = used_once (bare S) (bare T) (bare_laws l) (use_bare S T u) other calls in
-    let one = bytes_bare past in
-    let two = bytes_bare past' in
+same_bytes S T l S' T' past s k from into u =
+    let i = some_use S' T' k S T u in
     record {
-      taken = sym one.0 ∙ ap taken_in once.0 ∙ two.0;
-      written = sym one.1 ∙ ap written_in once.0 ∙ two.1;
-      held = ap (λ z. z.held) once.1;
-      fault = λ f e. same_fault s'.state f
-          (sym (ap (λ z. z.state) once.1) ∙ ap bare_state e);
-      answers = once.0;
-      come_to = once.1;
+      past' = i.0;
+      s' = i.1;
+      used = i.2;
+      same_calls = i.3;
+      only = λ q v w same. used_once S' T' k w i.2 (sym same ∙ i.3);
+      same = same_use S T l S' T' from into u i.2 i.3;
     }

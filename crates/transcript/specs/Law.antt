@@ -142,7 +142,8 @@ module _ (S T : Meaning) (before : Snapshot) (sector out : List ℕ) (answer : O
 
   -- it tells 7, 6 or 8 exactly when characters that fit lead to a character without a target
   -- coding, to bytes with no coding in front that are no opening, or to a character whose target
-  -- coding does not fit; otherwise it succeeds and takes the whole sector
+  -- coding does not fit, 7 and 6 with the cause and depth that the set gives for it; otherwise it
+  -- succeeds and takes the whole sector
   pub record TellsExactly : Type 0 where
     pub seven : (told_of answer).number ≡ 7 → LeadsTo S T (before.held ++ sector) (length out)
         (Err (Unwritten (told_of answer).character

@@ -1,6 +1,6 @@
 -- That the causes of writing change nothing but what a 7 says.
 use Rattle.std.specs.Prelude.{◌≡◌, ℕ, List, map, Ok, Err, Result}
-use Rattle.charset.specs.Meaning.{Meaning}
+use Rattle.charset.specs.Meaning.{Meaning, Laws}
 use Rattle.conversion.specs.declared.Fault.{Fault}
 use Rattle.conversion.specs.declared.Fault.TheVariants.{Unread, Unwritten, Unfinished}
 use Rattle.transcript.specs.declared.answers.FaultAt.{FaultAt}
@@ -12,10 +12,11 @@ use Rattle.transcript.specs.declared.answers.Status.{Status}
 use Rattle.transcript.specs.declared.answers.Told.{Told}
 use Rattle.transcript.specs.Told.{told_fault}
 use Rattle.transcript.specs.Calls.{Snapshot}
+use Rattle.transcript.specs.Stacks.{Layer, stack}
 use Rattle.transcript.specs.Uses.{Event, start, offer, close, status, Use, taken_in, written_in}
 
 -- two sets differ in the causes of writing alone
-pub record SameButForWriting (m n : Meaning) : Type 0 where
+pub record SameButForWriteCauses (m n : Meaning) : Type 0 where
   pub codings : m.codings ≡ n.codings
   pub openings : m.openings ≡ n.openings
   pub causes : m.causes ≡ n.causes
@@ -38,7 +39,7 @@ asked (status r) = to_tell
 abbrev pub SameCalls : (past past' : List Event) → Type 0
 SameCalls past past' = map asked past ≡ map asked past'
 
--- ---- what is told but for the cause that comes with 7
+-- ---- what is told, bare of the cause and depth that come with a 7: they are 0
 
 abbrev pub bare_fault : Fault → Fault
 bare_fault (Unread q) = Unread q
@@ -80,7 +81,7 @@ bare_snapshot s = record s { state = bare_state s.state }
 
 -- ---- the law
 
--- the number, the place and the character of two faults are the same
+-- two faults have the same number, place and character, and the offers that met them did the same
 pub record TellSame (t u : Told) : Type 0 where
   pub number : t.number ≡ u.number
   pub offset : t.offset ≡ u.offset
@@ -88,8 +89,9 @@ pub record TellSame (t u : Told) : Type 0 where
   pub taken : t.taken ≡ u.taken
   pub written : t.written ≡ u.written
 
--- two uses take, write and hold the same, stand at the same fault, if at any, and answer each call
--- alike, with the same output after it
+-- after two uses all that was taken and written and is held is the same, and so is the fault, if
+-- one stands; and, of which these follow, but for the cause and depth that come with a 7 every
+-- call was answered alike, with the same output after it, and both have come to the same
 pub record SameUse (past past' : List Event) (s s' : Snapshot) : Type 0 where
   pub taken : taken_in past ≡ taken_in past'
   pub written : written_in past ≡ written_in past'
@@ -99,10 +101,25 @@ pub record SameUse (past past' : List Event) (s s' : Snapshot) : Type 0 where
   pub answers : map bare_event past ≡ map bare_event past'
   pub come_to : bare_snapshot s ≡ bare_snapshot s'
 
--- transcripts between sets that differ from these in the causes of writing alone, used by the same
--- calls: so it is after each call of every use
+-- the same calls are a use between S and T too, of which there is one, and it is the same
+pub record AlsoBetween (S T : Meaning) (past : List Event) (s : Snapshot) : Type 0 where
+  pub past' : List Event
+  pub s' : Snapshot
+  pub used : Use S T past' s'
+  pub same_calls : SameCalls past past'
+  pub only : (q : List Event) (u : Snapshot) → Use S T q u → SameCalls past q
+      → (q ≡ past') × (u ≡ s')
+  pub same : SameUse past past' s s'
+
+-- so it is after each call of every use between two sets, for all sets that differ from these in
+-- the causes of writing alone
 abbrev pub SameBytes : Meaning → Meaning → Type 0
 SameBytes S T =
-    (S' T' : Meaning) (past past' : List Event) (s s' : Snapshot)
-    → SameButForWriting S S' → SameButForWriting T T' → Use S T past s → Use S' T' past' s'
-    → SameCalls past past' → SameUse past past' s s'
+    (S' T' : Meaning) (past : List Event) (s : Snapshot) → Laws S' → SameButForWriteCauses S S'
+    → SameButForWriteCauses T T' → Use S T past s → AlsoBetween S' T' past s
+
+-- and sets that differ in the causes of writing alone do so under every stack of layers
+abbrev pub SameUnderLayers : Type 0
+SameUnderLayers =
+    (ys : List Layer) (m n : Meaning) → SameButForWriteCauses m n
+    → SameButForWriteCauses (stack ys m) (stack ys n)

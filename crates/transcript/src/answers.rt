@@ -107,7 +107,7 @@ pub struct Told {
     pub number: u8,
     /// The number of the fault that stands.
     pub standing: u8,
-    /// Why a string cannot be read, 31 to 37, or a character not written, 34 to 38.
+    /// Why a string cannot be read, 31 to 37, or a character cannot be written, 34 to 38.
     pub cause: u8,
     /// How many layers lie above the set or layer that says so, up to 255.
     pub depth: u8,

@@ -128,7 +128,9 @@ fn offer_all<S: CharacterSet, T: CharacterSet>(
 }
 
 /// Transcribes bytes of the source set into the target set, up to their end or to a fault. What
-/// was transcribed replaces what `into` held, also where the call fails.
+/// was transcribed replaces what `into` held, also where the call fails. Besides, of transcripts
+/// between these sets: the law of transcription, and that their causes of writing change nothing
+/// but what a 7 says.
 #[tactic(auto, using(crate::proofs::Whole::the_law))]
 pub fn transcribe<S: CharacterSet + Drop, T: CharacterSet + Drop>(
     source: S,

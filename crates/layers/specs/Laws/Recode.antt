@@ -1,7 +1,7 @@
 -- A set under another form of bytes keeps the laws.
 use Rattle.std.specs.Prelude.{◌≡◌, ℕ, zero, suc, ◌<◌, ◌≤◌, Bool, true, false}
 use Rattle.std.specs.Prelude.{cond, ◌&&◌, ◌⊎◌, List, [], ◌∷◌, length, take, Some}
-use Rattle.std.specs.Prelude.{None, Ok, Err, Option, nat_le, refl}
+use Rattle.std.specs.Prelude.{None, Ok, Err, Option, option_and_then, nat_le, refl}
 use Rattle.std.proofs.Common.{sym, ap, ◌∙◌, inl, inr, arith, length-take, take_all, take-take}
 use Rattle.std.proofs.Common.{lit<}
 use Rattle.std.proofs.lemmas.Bool.{cases_lt, both_ways, leb-true, le-leb, and_parts, not-true}
@@ -19,7 +19,7 @@ use Rattle.layers.specs.declared.recoding.moves.WrittenByte.TheVariants.{One, Tw
 use Rattle.layers.specs.Depth.{own, up, over}
 use Rattle.layers.specs.Recoding.{End, clean, pending, broken, Recoding, put, stop, below, ends}
 use Rattle.layers.specs.Recoding.{before, in_form, is_clean, is_broken, at_most_four, coding_of}
-use Rattle.layers.specs.Recoding.{scan_cause, form_cause, write_cause, recoded, Agrees}
+use Rattle.layers.specs.Recoding.{scan_cause, form_cause, recoded, Agrees}
 use Rattle.charset.proofs.FrontLemmas.{reading_reads, reading_is, reading_bad, answer_grows, alone}
 
 pub over_small : {m : Meaning} → Laws m → (t : List ℕ) (q : SetRefusal) → q.cause < 256
@@ -340,14 +340,9 @@ module _ (r : Recoding) (m : Meaning) where
         l.opening_bare _ (opens_parts s o).2 (length (below r false (take n s))) c
         (rw (← below_take r s false n) (codes_parts (take n s) c p).2)
 
-    write_small : (c : ℕ) (o : Option (List ℕ)) → m.codings.string c ≡ o
-        → IsTwoBytes (write_cause r (coded_or (m.write_causes c) o))
-    write_small c None e = up_small l c e
-    write_small c (Some t) e = go (in_form r t)
-      where
-        go : (f : Option (List ℕ)) → IsTwoBytes (own (form_cause r f))
-        go None = (a.small_fault, lit< tt)
-        go (Some s) = (lit< tt, lit< tt)
+    small : (f : Option (List ℕ)) → IsTwoBytes (own (form_cause r f))
+    small None = (a.small_fault, lit< tt)
+    small (Some s) = (lit< tt, lit< tt)
 
     pub recoded_laws : Laws (recoded r m)
     recoded_laws = record {
@@ -374,5 +369,6 @@ module _ (r : Recoding) (m : Meaning) where
             (e ∙ sym (take_all 4 (take n s) (rw (length-take n s) (omega arith))))
         | inr g ↦ ap (scan_cause r m) (sym (take-take 4 n s g))
       ];
-      write_cause_sized = λ c h. write_small c (m.codings.string c) refl;
+      write_cause_sized = λ c h. over_written_small l c _ (small (option_and_then (in_form r)
+          (m.codings.string c)));
     }

@@ -24,7 +24,8 @@ bytes_stay g x y = same_bytes _ _ (g.met.S.CharacterSet.lawful x)
 
 pub returns-then-bytes-gt-LONGEST_SOURCE-clause-same_bytes :
     goal.returns-then-bytes-gt-LONGEST_SOURCE-clause-same_bytes
-returns-then-bytes-gt-LONGEST_SOURCE-clause-same_bytes g c = bytes_stay g c.args.source c.args.target
+returns-then-bytes-gt-LONGEST_SOURCE-clause-same_bytes g c =
+    bytes_stay g c.args.source c.args.target
 
 pub returns-clause-same_bytes : goal.returns-clause-same_bytes
 returns-clause-same_bytes g c = bytes_stay g c.args.source c.args.target
