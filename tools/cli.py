@@ -50,8 +50,17 @@ ENTRY = bytearray(TWO)
 ENTRY[len(LETTER + BROKEN) + 12] = 1
 
 
+WHY = {37: "it is not on the list", 38: "the set does not have it"}
+
+
 def broken(words):
     return f"finetalc: the roll: {words}"
+
+
+def lacking(place, form, cause, depth):
+    """What recode says of a character that a form lacks, by its offset, bytes and number."""
+    why = f"{WHY[cause]} (refusal 7, cause {cause}, depth {depth})"
+    return f"recode: standard input: offset {place} has no coding in {NAMES[form]}: {why}"
 
 
 CASES = [
@@ -79,10 +88,10 @@ CASES = [
     ("recode utf8 iso6937-7bit-parity", "é".encode(), b"\x99\x42\x65", "", 0),
     ("recode utf8 sami", "Č".encode(), b"\xa1", "", 0),
     ("recode 1 6 second", b"", "René ".encode(), f"recode: second: offset 6: {ACUTE}", 1),
-    ("recode 6 4", "Dvořák".encode(), b"Dvo", "recode: standard input: offset 3: C5 99: U+0159 has no coding in iso8859-16: the set does not have it (refusal 7, cause 38, depth 1)", 1),
-    ("recode 6 7", "Antonín".encode(), b"Anton", "recode: standard input: offset 5: C3 AD: U+00ED has no coding in iso6937-basic: it is not on the list (refusal 7, cause 37, depth 1)", 1),
-    ("recode 6 7", "日本".encode(), b"", "recode: standard input: offset 0: E6 97 A5: U+65E5 has no coding in iso6937-basic: the set does not have it (refusal 7, cause 38, depth 2)", 1),
-    ("recode 6 3", "a\x0b".encode(), b"\xe1", "recode: standard input: offset 1: 0B: U+000B has no coding in iso6937-7bit-parity: the set does not have it (refusal 7, cause 38, depth 3)", 1),
+    ("recode 6 4", "Dvořák".encode(), b"Dvo", lacking("3: C5 99: U+0159", 4, 38, 1), 1),
+    ("recode 6 7", "Antonín".encode(), b"Anton", lacking("5: C3 AD: U+00ED", 7, 37, 1), 1),
+    ("recode 6 7", "日本".encode(), b"", lacking("0: E6 97 A5: U+65E5", 7, 38, 2), 1),
+    ("recode 6 3", "a\x0b".encode(), b"\xe1", lacking("1: 0B: U+000B", 3, 38, 3), 1),
     ("recode 7 utf8", b"caf\xc2e", b"caf", "recode: standard input: offset 3: C2 65: a character that is not on the list (refusal 6, cause 37, depth 1)", 1),
     ("recode 6 1 nothing", b"", b"", "recode: cannot read nothing: No such file or directory (os error 2)", 1),
     ("recode latin1 6", b"", b"", "recode: no form has the name 'latin1'; --help lists them", 2),

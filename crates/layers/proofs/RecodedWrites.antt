@@ -15,10 +15,6 @@ abbrev pub ahead : List ℕ → Option (List ℕ) → Option (List ℕ)
 ahead u None = None
 ahead u (Some v) = Some (u ++ v)
 
-ahead_nothing : (o : Option (List ℕ)) → o ≡ ahead [] o
-ahead_nothing None = refl
-ahead_nothing (Some v) = refl
-
 ahead_both : (u v : List ℕ) (o : Option (List ℕ)) → ahead u (ahead v o) ≡ ahead (u ++ v) o
 ahead_both u v None = refl
 ahead_both u v (Some w) = ap Some (sym (append_assoc u v w))
@@ -35,7 +31,7 @@ before_some (One x) (Some v) = refl
 before_some (Two x y) None = refl
 before_some (Two x y) (Some v) = refl
 
-before_none : (o : Option (List ℕ)) → before None o ≡ None
+pub before_none : (o : Option (List ℕ)) → before None o ≡ None
 before_none None = refl
 before_none (Some v) = refl
 
@@ -84,10 +80,6 @@ pub record Made (r : Recoding) (t : List ℕ) (i : ℕ) (o : Option (List ℕ)) 
   pub u : List ℕ
   pub whole : in_form r t ≡ ahead u (in_form r (drop i t))
   pub kept : o ≡ at_most_four (Some u)
-
-pub made_none : (r : Recoding) (t : List ℕ) (o : Option (List ℕ)) → o ≡ Some []
-    → Made r t 0 o
-made_none r t o e = record { u = []; whole = ahead_nothing (in_form r t); kept = e }
 
 module _ (r : Recoding) (t : List ℕ) (i : ℕ) (o : Option (List ℕ)) (made : Made r t i o) where
   module _ (h : i < length t) where

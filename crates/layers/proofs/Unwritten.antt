@@ -12,12 +12,13 @@ use Rattle.layers.specs.declared.cause.Cause.TheVariants.{TooLong}
 use Rattle.layers.specs.Causes.{refusal}
 use Rattle.layers.specs.Depth.{own, up}
 use Rattle.layers.specs.Recoding.{Recoding, before, in_form, at_most_four, coding_of, recoded}
+use Rattle.layers.proofs.RecodedWrites.{before_none}
 
 pub byte_at : (p rest : List ℕ) (x : ℕ) → AreBytes (p ++ x ∷ rest) → x < 0x100
 byte_at [] rest x h = h.0
 byte_at (y ∷ p) rest x h = byte_at p rest x h.1
 
--- a byte without a form in a string, and that it has one or is too long
+-- a byte of t has no form; and t has such a byte, or is too long in its form
 abbrev FormlessIn : Recoding → List ℕ → Type 0
 FormlessIn r t = (p rest : List ℕ) × (b : ℕ) × (t ≡ p ++ b ∷ rest) × (r.form b ≡ None)
 
@@ -41,11 +42,7 @@ module _ (r : Recoding) where
 
   no_form : (p rest : List ℕ) (b : ℕ) → r.form b ≡ None
       → in_form r (p ++ b ∷ rest) ≡ None
-  no_form [] rest b h = rw h (go (in_form r rest))
-    where
-      go : (o : Option (List ℕ)) → before None o ≡ None
-      go None = refl
-      go (Some s) = refl
+  no_form [] rest b h = rw h (before_none (in_form r rest))
   no_form (x ∷ p) rest b h = rw (no_form p rest b h) refl
 
   module _ (m : Meaning) (c : ℕ) where

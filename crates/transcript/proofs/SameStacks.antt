@@ -1,5 +1,6 @@
 -- Sets that differ in the causes of writing alone do so under every stack of layers.
-use Rattle.std.proofs.Common.{◌≡◌, ℕ, Bool, false, List, [], ◌∷◌, take, sym, refl, ap, ◌∙◌}
+use Rattle.std.proofs.Common.{◌≡◌, ℕ, Bool, false, List, [], ◌∷◌, take, sym, refl, ap}
+use Rattle.std.proofs.Common.{◌∙◌}
 use Rattle.charset.specs.Meaning.{Meaning}
 use Rattle.charset.specs.Answers.{reading}
 use Rattle.layers.specs.Layers.{added, control, sub, controls}

@@ -89,19 +89,19 @@ pub record TellSame (t u : Told) : Type 0 where
   pub taken : t.taken ≡ u.taken
   pub written : t.written ≡ u.written
 
--- after two uses all that was taken and written and is held is the same, and so is the fault, if
--- one stands; and, of which these follow, but for the cause and depth that come with a 7 every
--- call was answered alike, with the same output after it, and both have come to the same
+-- two uses are the same, but for the cause and depth that come with a 7
 pub record SameUse (past past' : List Event) (s s' : Snapshot) : Type 0 where
+  -- each call was answered alike, with the same output after it, and both have come to the same
+  pub answers : map bare_event past ≡ map bare_event past'
+  pub come_to : bare_snapshot s ≡ bare_snapshot s'
+  -- so the same was taken and written and is held, and the same fault stands, if one does
   pub taken : taken_in past ≡ taken_in past'
   pub written : written_in past ≡ written_in past'
   pub held : s.held ≡ s'.held
   pub fault : (f : FaultAt) → s.state ≡ Faulted f
       → (g : FaultAt) × (s'.state ≡ Faulted g) × TellSame (told_fault f) (told_fault g)
-  pub answers : map bare_event past ≡ map bare_event past'
-  pub come_to : bare_snapshot s ≡ bare_snapshot s'
 
--- the same calls are a use between S and T too, of which there is one, and it is the same
+-- the same calls are a use between S and T too, the only one, and it is the same
 pub record AlsoBetween (S T : Meaning) (past : List Event) (s : Snapshot) : Type 0 where
   pub past' : List Event
   pub s' : Snapshot

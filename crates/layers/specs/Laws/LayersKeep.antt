@@ -12,7 +12,7 @@ use Rattle.std.proofs.lemmas.Bool.Decides.{nat_tests}
 use Rattle.charset.specs.declared.Reading.TheVariants.{Found, Open}
 use Rattle.charset.specs.Meaning.{Meaning, Codes, IsOpening, NoFront, Unreadable, HasNoCoding}
 use Rattle.charset.specs.Meaning.{Laws}
-use Rattle.charset.specs.Answers.{ReadAnswer, Reads, reading}
+use Rattle.charset.specs.Answers.{ReadAnswer, Reads, reading, writing}
 use Rattle.layers.specs.declared.recoding.moves.Move.TheVariants.{Emit}
 use Rattle.layers.specs.declared.recoding.moves.WrittenByte.TheVariants.{One}
 use Rattle.layers.specs.Depth.{own, up, over}
@@ -21,7 +21,7 @@ use Rattle.layers.specs.Layers.{parity_step, parity_form, parity_bytes, parity, 
 use Rattle.layers.specs.Layers.{kept, sub, added, control, controls}
 use Rattle.charset.proofs.FrontLemmas.{reading_reads, reading_is, alone, no_value, answer_grows}
 use Rattle.layers.specs.Recoding.{Agrees}
-use Rattle.layers.specs.Laws.Recode.{recoded_laws, over_small, over_written_small, up_small}
+use Rattle.layers.specs.Laws.Recode.{recoded_laws, over_small, reads_small, writes_small}
 
 pub shift_agrees : Agrees shift_bytes
 shift_agrees = record {
@@ -124,13 +124,14 @@ module _ (ds : List ℕ) {m : Meaning} (l : Laws m) where
     coding_begins = λ s c n p. l.coding_begins s c n (kept_parts s c p).1;
     opening_begins = l.opening_begins;
     opening_bare = λ s o n c p. l.opening_bare s o n c (kept_parts (take n s) c p).1;
-    cause_sized = λ s h. over_small l s (own 37) (lit< tt) (lit< tt);
+    cause_sized = λ s h. over_small (reading m s) (own 37) (reads_small l s) (lit< tt, lit< tt);
     cause_stays = λ s n h.
         let r = reading m (take n s) in
         let f = reading_reads l (take n s) in
         ap (λ z. over z (own 37))
         (reading_is l s r (answer_grows l s n r (λ e. both_ways _ h.1 (rw e at f)) f));
-    write_cause_sized = λ c h. over_written_small l c (own 37) (lit< tt, lit< tt);
+    write_cause_sized = λ c h. over_small (writing m c) (own 37) (writes_small l c)
+        (lit< tt, lit< tt);
   }
     where
       go : (c : ℕ) (s : List ℕ) (b : Bool) → on_list ds c ≡ b
@@ -233,7 +234,7 @@ module _ (cs : List Bool) {m : Meaning} (l : Laws m) where
     opening_bare = open_bare;
     cause_sized = λ s h. ((l.cause_sized s (bad_below s h)).0, omega arith);
     cause_stays = λ s n h. ap up (l.cause_stays s n (bad_below (take n s) h));
-    write_cause_sized = λ c h. up_small l c (unwritten_below c h);
+    write_cause_sized = λ c h. ((l.write_cause_sized c (unwritten_below c h)).0, omega arith);
   }
     where
       written' : (c : ℕ) (s : List ℕ) (b : Bool) → added cs m c ≡ b

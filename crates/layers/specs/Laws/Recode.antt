@@ -1,49 +1,47 @@
 -- A set under another form of bytes keeps the laws.
 use Rattle.std.specs.Prelude.{◌≡◌, ℕ, zero, suc, ◌<◌, ◌≤◌, Bool, true, false}
 use Rattle.std.specs.Prelude.{cond, ◌&&◌, ◌⊎◌, List, [], ◌∷◌, length, take, Some}
-use Rattle.std.specs.Prelude.{None, Ok, Err, Option, option_and_then, nat_le, refl}
+use Rattle.std.specs.Prelude.{None, Ok, Err, Option, Result, option_and_then, nat_le, refl}
 use Rattle.std.proofs.Common.{sym, ap, ◌∙◌, inl, inr, arith, length-take, take_all, take-take}
 use Rattle.std.proofs.Common.{lit<}
 use Rattle.std.proofs.lemmas.Bool.{cases_lt, both_ways, leb-true, le-leb, and_parts, not-true}
 use Rattle.std.proofs.lemmas.Bool.{cond_both}
 use Rattle.charset.specs.declared.SetRefusal.{SetRefusal}
-use Rattle.charset.specs.declared.Reading.TheVariants.{Found, Open}
 use Rattle.charset.specs.Strings.{AreBytes}
 use Rattle.charset.specs.Meaning.{Meaning, Codes, IsOpening, NoFront, Unreadable}
-use Rattle.charset.specs.Meaning.{HasNoCoding, IsTwoBytes, Laws}
-use Rattle.charset.specs.Answers.{ReadAnswer, Reads, reading, coded_or, writing}
+use Rattle.charset.specs.Meaning.{IsTwoBytes, Laws}
+use Rattle.charset.specs.Answers.{Reads, reading, coded_or, writing}
 use Rattle.layers.specs.declared.recoding.moves.Move.{Move}
 use Rattle.layers.specs.declared.recoding.moves.Move.TheVariants.{Emit, Hold}
 use Rattle.layers.specs.declared.recoding.moves.WrittenByte.{WrittenByte}
 use Rattle.layers.specs.declared.recoding.moves.WrittenByte.TheVariants.{One, Two}
-use Rattle.layers.specs.Depth.{own, up, over}
+use Rattle.layers.specs.Depth.{own, over}
 use Rattle.layers.specs.Recoding.{End, clean, pending, broken, Recoding, put, stop, below, ends}
 use Rattle.layers.specs.Recoding.{before, in_form, is_clean, is_broken, at_most_four, coding_of}
 use Rattle.layers.specs.Recoding.{scan_cause, form_cause, recoded, Agrees}
 use Rattle.charset.proofs.FrontLemmas.{reading_reads, reading_is, reading_bad, answer_grows, alone}
 
-pub over_small : {m : Meaning} → Laws m → (t : List ℕ) (q : SetRefusal) → q.cause < 256
-    → q.depth < 256 → IsTwoBytes (over (reading m t) q)
-over_small {m} l t q h k = go (reading m t) (reading_reads l t)
-  where
-    go : (r : ReadAnswer) → Reads m t r → IsTwoBytes (over r q)
-    go (Ok (Found c n)) e = (h, k)
-    go (Ok Open) e = (h, k)
-    go (Err x) e = rw e.1 ((l.cause_sized t e.0).0, omega arith)
+abbrev pub RefusesInTwoBytes : {X : Type 0} → Result X SetRefusal → Type 0
+RefusesInTwoBytes r = (x : SetRefusal) → r ≡ Err x → IsTwoBytes x
 
--- the cause of a character one layer up is two bytes, and so is one from below or the layer's own
-pub up_small : {m : Meaning} → Laws m → (c : ℕ) → HasNoCoding m c
-    → IsTwoBytes (up (m.write_causes c))
-up_small l c e = ((l.write_cause_sized c e).0, omega arith)
+-- a cause from below, or the layer's own, is two bytes
+pub over_small : {X : Type 0} (r : Result X SetRefusal) (q : SetRefusal)
+    → RefusesInTwoBytes r → IsTwoBytes q → IsTwoBytes (over r q)
+over_small (Ok y) q small own = own
+over_small (Err x) q small own = ((small x refl).0, omega arith)
 
-pub over_written_small : {m : Meaning} → Laws m → (c : ℕ) (q : SetRefusal) → IsTwoBytes q
-    → IsTwoBytes (over (writing m c) q)
-over_written_small {m} l c q h = go (m.codings.string c) refl
+pub reads_small : {m : Meaning} → Laws m → (t : List ℕ) → RefusesInTwoBytes (reading m t)
+reads_small {m} l t x e =
+    let h : Reads m t (Err x) = rw e at (reading_reads l t) in rw h.1 (l.cause_sized t h.0)
+
+pub writes_small : {m : Meaning} → Laws m → (c : ℕ) → RefusesInTwoBytes (writing m c)
+writes_small {m} l c x e = go (m.codings.string c) refl e
   where
     go : (o : Option (List ℕ)) → m.codings.string c ≡ o
-        → IsTwoBytes (over (coded_or (m.write_causes c) o) q)
-    go None e = up_small l c e
-    go (Some s) e = h
+        → coded_or (m.write_causes c) o ≡ Err x → IsTwoBytes x
+    go None none e = let same : m.write_causes c ≡ x = cc in
+        rw (← same) (l.write_cause_sized c none)
+    go (Some s) some e = cc
 
 module _ (r : Recoding) where
   -- a beginning stands for a beginning
@@ -361,14 +359,14 @@ module _ (r : Recoding) (m : Meaning) where
           (begins s n (l.opening_begins _ _ h.2));
       opening_bare = open_bare;
       cause_sized =
-          λ s h. over_small l _ _ (cond_both _ r.fault 36 (λ n. n < 256) (λ _. a.small_fault)
-          (λ _. lit< tt)) (lit< tt);
+          λ s h. over_small (reading m _) _ (reads_small l _)
+          (cond_both _ r.fault 36 (λ n. n < 256) (λ _. a.small_fault) (λ _. lit< tt), lit< tt);
       cause_stays = λ s n h. elim (cases_lt n 4) [
         | inl g ↦ let e : take n (take 4 s) ≡ take n s = take-take n 4 s (omega arith) in
             stays (take 4 s) n g (rw e h) ∙ ap (scan_cause r m)
             (e ∙ sym (take_all 4 (take n s) (rw (length-take n s) (omega arith))))
         | inr g ↦ ap (scan_cause r m) (sym (take-take 4 n s g))
       ];
-      write_cause_sized = λ c h. over_written_small l c _ (small (option_and_then (in_form r)
-          (m.codings.string c)));
+      write_cause_sized = λ c h. over_small (writing m c) _ (writes_small l c)
+          (small (option_and_then (in_form r) (m.codings.string c)));
     }
