@@ -40,15 +40,15 @@ Instructions per byte are those of callgrind, without what an empty text takes; 
 are common words by chance. 6937 is ISO/IEC 6937, and 8859-16 is ISO/IEC 8859-16.
 """
 NOTES = """
-A run of bytes that stand alone in both sets goes by a table of 256 that a transcript fills at its
-first sector of 256 bytes or more, which is what the shortest text here pays for. Two bytes that
-code an accented letter, or three, are looked up among those that were met before. A letter that
-shares its place there with another, as a capital does with its small letter, is met anew each time
-the two change, and a source byte that becomes two is never kept: such texts cost more.
+A run of bytes that stand alone in both sets, and that were met before, goes by a table of 256. Two
+bytes that code an accented letter, or three, are looked up among those that were met before. A
+letter that shares its place there with another, as a capital does with its small letter, is met
+anew each time the two change, and a source byte that becomes two is never kept: such texts cost
+more, and so do short ones, in which much is new.
 
 `recode` holds the whole text and what it writes in memory. The C interface keeps nothing between
-calls, so it fills the table anew for each sector, and meets each coding anew. Callgrind counts each
-step of an instruction that fills or copies memory, of which the C client has more.
+calls, so in each sector it meets each byte and each coding anew. Callgrind counts each step of an
+instruction that fills or copies memory, of which the C client has more.
 """
 
 

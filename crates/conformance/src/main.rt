@@ -12,7 +12,7 @@ mod known;
 mod run;
 mod vector;
 
-use run::Stretch;
+use run::{ShownTo, Stretch};
 use std::io::{BufRead, BufReader};
 use vector::Vector;
 
@@ -56,11 +56,26 @@ impl Count {
     }
 }
 
+// A vector whose first number lies behind its last asks for nothing, and nothing is counted. Where
+// our answer to the first differs, that is printed.
+fn tell_empty(rt: &HostRuntime, vector: &Vector) -> anyhow::Result<()> {
+    let run = Stretch::at(vector, vector.from)?;
+    if !run.agrees() {
+        let shown = ShownTo { run, to: vector.to };
+        println!(rt; "{shown}")?;
+    }
+    Ok(())
+}
+
 fn hold_all(rt: &HostRuntime) -> anyhow::Result<()> {
     let mut count = Count::default();
     for line in BufReader::new(rt.alloc(), rt.stdin())?.lines(rt.alloc()) {
         let vector = line?.as_str().parse::<Vector>()?;
-        count.hold(rt, &vector)?;
+        if vector.from > vector.to {
+            tell_empty(rt, &vector)?;
+        } else {
+            count.hold(rt, &vector)?;
+        }
     }
     println!(rt; "{} answers agree, {} differ", count.agree, count.differ)?;
     Ok(())

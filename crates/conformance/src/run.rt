@@ -48,7 +48,8 @@ impl<'a> Stretch<'a> {
     fn is_accounted(&self) -> bool
         ensures { result ≡ true → Accounted self.now.vector.now self.now.from self.now.ours }
     {
-        self.known().is_some() || self.ours.agrees(self.vector.answer)
+        let agreed = self.ours.agrees(self.vector.answer);
+        agreed || self.known().is_some()
     }
 
     // The run with the next one behind it, if our answer to both is the same.
@@ -137,20 +138,47 @@ impl<'a> Stretch<'a> {
     }
 }
 
+/// A stretch, shown as if it ended at another number.
+#[derive(Clone, Copy)]
+pub struct ShownTo<'a> {
+    pub run: Stretch<'a>,
+    pub to: u32,
+}
+
 // Its text is not promised: the kind of a difference is a relation in the specs, and no function.
-impl fmt::Display for Stretch<'_> {
+impl fmt::Display for ShownTo<'_> {
     fn fmt<W: fmt::Write>(&self, f: &mut fmt::Formatter<W>) -> fmt::Result {
-        let from = self.from;
+        let Stretch {
+            vector,
+            from,
+            ours,
+            ..
+        } = self.run;
+        let Vector {
+            set,
+            question,
+            answer,
+            ..
+        } = *vector;
         let to = self.to;
-        let set = self.vector.set;
-        match self.vector.question {
+        match question {
             Question::Read { width } => write!(f, "read {set} {from:0width$X}-{to:0width$X}")?,
             Question::Write => write!(f, "write {set} U+{from:04X}-U+{to:04X}")?,
         }
-        write!(f, ": {}, converter {}", self.ours, self.vector.answer)?;
-        match self.known() {
+        write!(f, ": {ours}, converter {answer}")?;
+        match self.run.known() {
             Some(known) => write!(f, " ({known})"),
             None => write!(f, " (UNKNOWN)"),
         }
+    }
+}
+
+impl fmt::Display for Stretch<'_> {
+    fn fmt<W: fmt::Write>(&self, f: &mut fmt::Formatter<W>) -> fmt::Result {
+        let shown = ShownTo {
+            run: *self,
+            to: self.to,
+        };
+        write!(f, "{shown}")
     }
 }

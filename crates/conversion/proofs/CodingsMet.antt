@@ -12,7 +12,7 @@ use Rattle.conversion.specs.declared.met.Met.{Met}
 use Rattle.conversion.specs.declared.met.MetCodings.{MetCodings}
 use Rattle.conversion.specs.Becomes.{becomes}
 use Rattle.conversion.specs.Next.{ComesNext}
-use Rattle.conversion.specs.Met.{if_this, found_in, kept_with, KeptIn, Kept, Right}
+use Rattle.conversion.specs.Met.{if_this, found_in, kept_with, KeptIn, Kept, RightCodings}
 
 -- what is found is kept
 pub found_kept : {N : ℕ} (kept : List (Option (Met N))) (place : ℕ) (s v : List ℕ)
@@ -36,6 +36,10 @@ none_kept kept same s v k = elim (cases_lt k.0 256) [
   | inr h ↦ none-some _ (sym (get_or_past kept k.0 None (rw same h)) ∙ k.1)
 ]
 
+pub one : (s : List ℕ) → 1 ≤ length s → take 1 s ≡ slice_index_or s 0 0 ∷ []
+one [] h = absurd (omega (arith, h))
+one (x ∷ s) h = refl
+
 pub two : (s : List ℕ) → 2 ≤ length s
     → take 2 s ≡ slice_index_or s 0 0 ∷ slice_index_or s 1 0 ∷ []
 two [] h = absurd (omega (arith, h))
@@ -49,7 +53,7 @@ three (x ∷ []) h = absurd (omega (arith, h))
 three (x ∷ y ∷ []) h = absurd (omega (arith, h))
 three (x ∷ y ∷ z ∷ s) h = refl
 
-module _ (S T : Meaning) (m : MetCodings) (right : Right S T m) where
+module _ (S T : Meaning) (m : MetCodings) (right : RightCodings S T m) where
   pub found_next : (input s v : List ℕ) (n : ℕ) → Kept m s v → n ≤ length input
       → take n input ≡ s → ComesNext S T input (Ok (Some (v, n)))
   found_next input s v n kept long front =

@@ -4,6 +4,7 @@ use Rattle.std.specs.Prelude.{bytes_eq, slice_index_or, slice_set}
 use Rattle.charset.specs.Meaning.{Meaning}
 use Rattle.conversion.specs.Becomes.{becomes}
 use Rattle.conversion.specs.Next.{ComesNext}
+use Rattle.conversion.specs.Plain.{plain_byte, Known}
 use Rattle.conversion.specs.declared.met.Met.{Met}
 use Rattle.conversion.specs.declared.met.MetCodings.{MetCodings}
 
@@ -28,9 +29,18 @@ KeptIn kept s v =
 abbrev pub Kept : MetCodings → (s v : List ℕ) → Type 0
 Kept m s v = KeptIn m.pairs.kept s v ⊎ KeptIn m.triples.kept s v
 
+-- what is kept of longer codings is right for two sets
+abbrev pub RightCodings : Meaning → Meaning → MetCodings → Type 0
+RightCodings S T m = (s v : List ℕ) → Kept m s v → becomes S T s ≡ Some v
+
 -- what is kept is right for two sets
 abbrev pub Right : Meaning → Meaning → MetCodings → Type 0
-Right S T m = (s v : List ℕ) → Kept m s v → becomes S T s ≡ Some v
+Right S T m = Known S T m.singles × RightCodings S T m
+
+-- what is found of a byte is what it becomes
+abbrev pub IsPlain : Meaning → Meaning → ℕ → Option ℕ → Type 0
+IsPlain S T b None = Unit {0}
+IsPlain S T b (Some t) = plain_byte S T b ≡ Some t
 
 -- what is found is what comes next in the input
 abbrev pub FoundNext : Meaning → Meaning → List ℕ → Option (List ℕ × ℕ) → Type 0

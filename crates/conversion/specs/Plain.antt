@@ -15,12 +15,6 @@ only_byte (Some (t ∷ u ∷ s)) = None
 abbrev pub plain_byte : Meaning → Meaning → ℕ → Option ℕ
 plain_byte S T b = only_byte (becomes S T (b ∷ []))
 
--- what each byte below n becomes is known
-abbrev pub AllKnown : Meaning → Meaning → ℕ → List (Option ℕ) → Type 0
-AllKnown S T n known =
-    (length known ≡ 256)
-    × ((b : ℕ) → b < n → slice_index_or known b None ≡ plain_byte S T b)
-
 -- what is known of each byte is right
 abbrev pub Known : Meaning → Meaning → List (Option ℕ) → Type 0
 Known S T known =

@@ -14,7 +14,7 @@ use charset::{CharacterSet, Front};
 pub struct Converter<S: CharacterSet, T: CharacterSet> {
     sets: TwoSets<S, T>,
     met: MetCodings,
-    ghost right: { IsRightFor sets met },
+    ghost right: { IsRightFor S.CharacterSet T.CharacterSet sets met },
 }
 
 impl<S: CharacterSet, T: CharacterSet> Converter<S, T> {
@@ -25,7 +25,7 @@ impl<S: CharacterSet, T: CharacterSet> Converter<S, T> {
         ensures same_sets { (result.sets.source ≡ source) × (result.sets.target ≡ target) }
     {
         Converter {
-            sets: TwoSets::new(source, target),
+            sets: TwoSets { source, target },
             met: MetCodings::empty(),
         }
     }
@@ -45,7 +45,6 @@ impl<S: CharacterSet, T: CharacterSet> Converter<S, T> {
         ensures runs { Runs (source self.old) (target self.old)
             (held ++ sector.now) output.old output.new run.new result }
     {
-        self.sets.prepare(sector.len());
         self.sets.run(&mut self.met, held, sector, output, run)
     }
 }

@@ -1,8 +1,7 @@
-//! Two character sets, and what is known of the bytes that stand alone in both.
+//! Two character sets, and characters from the one into the other.
 ghost use Rattle.std.specs.Prelude.{◌≡◌, ◌≤◌, ◌++◌, length, drop, Some};
 ghost use Rattle.charset.specs.Sets.{set_of};
 ghost use Rattle.conversion.specs.Next.{ComesNext};
-ghost use Rattle.conversion.specs.Plain.{only_byte, plain_byte, AllKnown, Known};
 ghost use Rattle.conversion.specs.Runs.{ByteForByte, Runs};
 ghost use Rattle.conversion.specs.Advances.{Advances};
 
@@ -10,92 +9,26 @@ use crate::met::MetCodings;
 use crate::{Advance, Fault, Pause, Run, next_coding};
 use charset::{CharacterSet, Coding, Front};
 
-// The byte of a coding of one byte.
-fn only_byte(coding: Coding) -> Option<u8>
-    ensures { result ≡ only_byte (Some coding) }
-{
-    match coding.as_bytes() {
-        [only] => Some(*only),
-        _ => None,
-    }
-}
-
-// What a byte becomes that stands alone in both sets.
-fn plain_byte<S: CharacterSet, T: CharacterSet>(source: &S, target: &T, byte: u8) -> Option<u8>
-    ensures { result ≡ plain_byte (set_of S.CharacterSet source.now)
-        (set_of T.CharacterSet target.now) byte }
-{
-    match next_coding(source, target, &[byte]) {
-        Ok(found) => {
-            let (coding, _) = found?;
-            only_byte(coding)
-        }
-        Err(_) => None,
-    }
-}
-
-// What every byte becomes.
-fn plain_bytes<S: CharacterSet, T: CharacterSet>(source: &S, target: &T) -> [Option<u8>; 256]
-    ensures { AllKnown (set_of S.CharacterSet source.now)
-        (set_of T.CharacterSet target.now) 256 result }
-{
-    let mut known = [None; 256];
-    for byte in 0..256usize {
-        known[byte] = plain_byte(source, target, byte as u8);
-    }
-    known
-}
-
-// From so many bytes on it is worth looking up what each byte becomes.
-const MANY_BYTES: usize = 256;
-
-/// The two sets of a conversion, and what is known of the bytes that stand alone in both.
+/// The two sets of a conversion.
 #[derive(Drop)]
 pub struct TwoSets<S: CharacterSet, T: CharacterSet> {
     pub(crate) source: S,
     pub(crate) target: T,
-    // What a byte becomes that stands alone in both sets; none where that is not known.
-    known: [Option<u8>; 256],
-    is_prepared: bool,
-    ghost known_right: { Known (set_of S.CharacterSet source)
-        (set_of T.CharacterSet target) known },
 }
 
 impl<S: CharacterSet, T: CharacterSet> TwoSets<S, T> {
-    ghost use Rattle.conversion.specs.Pairs.{source, target, IsRightFor, SameSets};
+    ghost use Rattle.conversion.specs.Pairs.{source, target, IsRightFor};
 
-    // The two sets, of which nothing is known yet.
-    pub(crate) fn new(source: S, target: T) -> TwoSets<S, T>
-        ensures same_sets { (result.source ≡ source) × (result.target ≡ target) }
-    {
-        TwoSets {
-            source,
-            target,
-            known: [None; 256],
-            is_prepared: false,
-        }
-    }
-
-    // Looks up what each byte becomes, unless that is done, where so many bytes are to come that it
-    // is worth it.
-    pub(crate) fn prepare(&mut self, bytes: usize)
-        ensures same_sets { SameSets self.old self.new }
-    {
-        if bytes >= MANY_BYTES && !self.is_prepared {
-            self.known = plain_bytes(&self.source, &self.target);
-            self.is_prepared = true;
-        }
-    }
-
-    // What the bytes in front of the input become, in front of the output, as far as that is known;
+    // What the bytes in front of the input become, in front of the output, as far as that was met;
     // how many these are.
-    fn copy_plain(&self, input: &[u8], output: &mut [u8]) -> usize
-        ensures { ByteForByte (source self.now) (target self.now)
+    fn copy_plain(&self, met: &MetCodings, input: &[u8], output: &mut [u8]) -> usize
+        requires { IsRightFor S.CharacterSet T.CharacterSet self.now met.now }
+        ensures { ByteForByte (source S.CharacterSet self.now) (target T.CharacterSet self.now)
             input.now output.old output.new result }
     {
         let mut count = 0;
         while count < input.len() && count < output.len() {
-            let Some(byte) = self.known[usize::from(input[count])] else {
+            let Some(byte) = met.single(input[count]) else {
                 break;
             };
             output[count] = byte;
@@ -106,23 +39,32 @@ impl<S: CharacterSet, T: CharacterSet> TwoSets<S, T> {
 
     // The same of the bytes that stand `at` bytes behind the start of the held bytes and then the
     // sector. None of those that are held: they are few.
-    fn plain_at(&self, held: Front, sector: &[u8], at: usize, output: &mut [u8]) -> usize
-        requires { at ≤ length (held ++ sector.now) }
-        ensures { ByteForByte (source self.now) (target self.now)
+    fn plain_at(
+        &self,
+        met: &MetCodings,
+        held: Front,
+        sector: &[u8],
+        at: usize,
+        output: &mut [u8],
+    ) -> usize
+        requires right { IsRightFor S.CharacterSet T.CharacterSet self.now met.now }
+        requires inside { at ≤ length (held ++ sector.now) }
+        ensures { ByteForByte (source S.CharacterSet self.now) (target T.CharacterSet self.now)
             (drop at (held ++ sector.now)) output.old output.new result }
     {
         let behind = held.len();
         if at < behind {
             return 0;
         }
-        self.copy_plain(&sector[at - behind..], output)
+        self.copy_plain(met, &sector[at - behind..], output)
     }
 
     // What comes next in the input: from the codings that were met, where it is one of them.
     fn next(&self, met: &mut MetCodings, input: &[u8]) -> Result<Option<(Coding, usize)>, Fault>
-        requires { IsRightFor self.now met.old }
-        ensures right { IsRightFor self.now met.new }
-        ensures next { ComesNext (source self.now) (target self.now) input.now result }
+        requires { IsRightFor S.CharacterSet T.CharacterSet self.now met.old }
+        ensures right { IsRightFor S.CharacterSet T.CharacterSet self.now met.new }
+        ensures next { ComesNext (source S.CharacterSet self.now)
+            (target T.CharacterSet self.now) input.now result }
     {
         if let Some(found) = met.find(input) {
             return Ok(Some(found));
@@ -142,10 +84,10 @@ impl<S: CharacterSet, T: CharacterSet> TwoSets<S, T> {
         input: &[u8],
         output: &mut [u8],
     ) -> Result<Advance, Fault>
-        requires { IsRightFor self.now met.old }
-        ensures right { IsRightFor self.now met.new }
-        ensures advances { Advances (source self.now) (target self.now)
-            input.now output.old output.new result }
+        requires { IsRightFor S.CharacterSet T.CharacterSet self.now met.old }
+        ensures right { IsRightFor S.CharacterSet T.CharacterSet self.now met.new }
+        ensures advances { Advances (source S.CharacterSet self.now)
+            (target T.CharacterSet self.now) input.now output.old output.new result }
     {
         let Some((coding, length)) = self.next(met, input)? else {
             return Ok(Advance::Paused(Pause::Open));
@@ -172,11 +114,12 @@ impl<S: CharacterSet, T: CharacterSet> TwoSets<S, T> {
         at: usize,
         output: &mut [u8],
     ) -> Result<Advance, Fault>
-        requires right { IsRightFor self.now met.old }
+        requires right { IsRightFor S.CharacterSet T.CharacterSet self.now met.old }
         requires inside { at ≤ length (held ++ sector.now) }
-        ensures right { IsRightFor self.now met.new }
-        ensures advances { Advances (source self.now) (target self.now)
-            (drop at (held ++ sector.now)) output.old output.new result }
+        ensures right { IsRightFor S.CharacterSet T.CharacterSet self.now met.new }
+        ensures advances { Advances (source S.CharacterSet self.now)
+            (target T.CharacterSet self.now) (drop at (held ++ sector.now))
+            output.old output.new result }
     {
         let bytes = held.as_bytes();
         if at < bytes.len() {
@@ -187,7 +130,7 @@ impl<S: CharacterSet, T: CharacterSet> TwoSets<S, T> {
         }
     }
 
-    // What `convert` does: the bytes that stand alone in both sets at once, the others one at a
+    // What `convert` does: the bytes that were met alone in both sets at once, the others one at a
     // time.
     pub(crate) fn run(
         &self,
@@ -197,15 +140,15 @@ impl<S: CharacterSet, T: CharacterSet> TwoSets<S, T> {
         output: &mut [u8],
         run: &mut Run,
     ) -> Result<Pause, Fault>
-        requires { IsRightFor self.now met.old }
-        ensures right { IsRightFor self.now met.new }
-        ensures runs { Runs (source self.now) (target self.now)
+        requires { IsRightFor S.CharacterSet T.CharacterSet self.now met.old }
+        ensures right { IsRightFor S.CharacterSet T.CharacterSet self.now met.new }
+        ensures runs { Runs (source S.CharacterSet self.now) (target T.CharacterSet self.now)
             (held ++ sector.now) output.old output.new run.new result }
     {
         prove!(held.len() <= 4);
         *run = Run::default();
         'turns: loop {
-            let copied = self.plain_at(held, sector, run.read, &mut output[run.written..]);
+            let copied = self.plain_at(met, held, sector, run.read, &mut output[run.written..]);
             if copied > 0 {
                 run.characters += copied;
                 run.read += copied;

@@ -117,11 +117,20 @@ impl CharacterList {
         ensures replaced { OnOk result (self.new ≡ numbers.now) }
         ensures refused { IfErr result (RefusedAs (S.codings set.now) numbers.now) }
         ensures kept { OnErr result (self.new ≡ self.old) }
+        ensures sound { Sound self.new }
         ensures one_answer { OneAnswer (S.codings set.now) numbers.now }
     {
+        self.assert_sound();
         check(numbers, set)?;
         self.characters = numbers.to_vec(heap)?;
         Ok(())
+    }
+
+    // What every list keeps, told to callers that know its characters alone.
+    pub(crate) fn assert_sound(&self)
+        ensures { Sound self.now }
+    {
+        let _ = &self.characters;
     }
 }
 

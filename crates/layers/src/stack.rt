@@ -4,6 +4,7 @@
 ghost use Rattle.std.specs.Prelude.{◌≡◌};
 ghost use Rattle.charset.specs.Meaning.{Laws};
 ghost use Rattle.charset.specs.Sets.{set_of};
+ghost use Rattle.layers.specs.CharacterList.{Sound};
 ghost use Rattle.layers.specs.Layers.{parity, shift, sub, controls};
 ghost use Rattle.layers.specs.Words.{ParityMeaning, ShiftMeaning, SubMeaning, ControlsMeaning};
 
@@ -69,10 +70,12 @@ pub fn with_controls<S: CharacterSet>(chosen: [bool; 32], below: S) -> Controls<
 /// is writing one that the set below can write.
 pub fn with_list<S: CharacterSet>(list: CharacterList, below: S) -> Subrepertoire<S>
     ensures on { (result.below ≡ below) × (result.list ≡ list) }
+    ensures sound { Sound list }
     ensures is_subrepertoire { set_of ⟦<Subrepertoire<S> as CharacterSet>⟧ result
         ≡ sub list (set_of S.CharacterSet below) }
     ensures keeps_laws { Laws (sub list (set_of S.CharacterSet below)) }
     ensures means_subrepertoire { SubMeaning list (set_of S.CharacterSet below) }
 {
+    list.assert_sound();
     Subrepertoire { list, below }
 }

@@ -41,9 +41,10 @@ fn read_one(rt: &HostRuntime, byte: u8) -> io::Result<()> {
 
 // What each two bytes with this first one are read as.
 fn read_two(rt: &HostRuntime, first: u8) -> io::Result<()> {
-    let answers = (0..=255u8)
-        .map(|second| (second, ShownReading(Iso6937.read(&[first, second]))))
-        .collect::<Vec<_>>(rt.alloc())?;
+    let mut answers = [(0, ShownReading(Ok(Reading::Open))); 256];
+    for (place, second) in answers.iter_mut().zip(0..=255u8) {
+        *place = (second, ShownReading(Iso6937.read(&[first, second])));
+    }
     for run in answers.chunk_by(|a, b| a.1 == b.1) {
         let (from, answer) = run[0];
         let (to, _) = run[run.len() - 1];

@@ -19,14 +19,17 @@ outcome_told (Err f) =
     decimal (fault_told f).told.number ++ (codes "@" ++ decimal (fault_told f).told.offset)
 
 -- page number, form and characters, then how the page went
-abbrev pub line_of : (number : ℕ) (form : Option Form) (characters : ℕ)
-    → Result (Unit {0}) RollFault → List ℕ
-line_of n form characters r =
-    decimal n ++ (codes " " ++ (decimal (form_told form) ++ (codes " " ++ (decimal characters
+abbrev pub line_with : (number form characters : ℕ) → Result (Unit {0}) RollFault → List ℕ
+line_with n form characters r =
+    decimal n ++ (codes " " ++ (decimal form ++ (codes " " ++ (decimal characters
     ++ (codes " " ++ outcome_told r)))))
 
+abbrev pub line_of : (number : ℕ) (form : Option Form) (characters : ℕ)
+    → Result (Unit {0}) RollFault → List ℕ
+line_of n form characters r = line_with n (form_told form) characters r
+
 abbrev pub line_told : ℕ → PageText → List ℕ
-line_told n t = line_of n t.form t.characters t.outcome
+line_told n t = line_with n t.form t.characters t.outcome
 
 -- the text of a page, its line, and a line feed behind each
 abbrev pub block_of : (text : List ℕ) → (number : ℕ) (form : Option Form) (characters : ℕ)

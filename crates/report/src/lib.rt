@@ -28,7 +28,7 @@ pub const LONGEST_INPUT: usize = 65_536;
 pub fn line(heap: Global, number: u32, page: &PageText) -> Result<String, AllocError>
     ensures { IfOk result (λ s. string_bytes s ≡ line_told number page.now) }
 {
-    let form = page.form.map_or(0, u8::from);
+    let form = page.form;
     let characters = page.characters;
     match page.outcome {
         Ok(()) => format!(in heap; "{number} {form} {characters} ok"),

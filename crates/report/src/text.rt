@@ -4,6 +4,7 @@ ghost use Rattle.transcript.specs.Failures.{IsTooLongOrWanting};
 ghost use Rattle.sets.specs.Utf8.{utf8};
 ghost use Rattle.transcript.specs.Carried.{fault_told_in, TranscribesInto};
 ghost use Rattle.forms.specs.FormSets.{form_set};
+ghost use Rattle.report.specs.Lines.{form_told};
 ghost use Rattle.report.specs.Texts.{AlwaysWritten, page_failure, page_form, IsTextOf};
 ghost use Rattle.report.specs.Texts.{TranscribesPage};
 
@@ -71,8 +72,8 @@ fn transcribe_page(
 /// The text of a page up to its end or a fault.
 #[derive(Drop)]
 pub struct PageText {
-    /// The form of the page; `None` for a picture.
-    pub form: Option<Form>,
+    /// The number of the page's form, 1 to 7; 0 for a picture.
+    pub form: u8,
     /// The text, in UTF-8.
     pub text: Vec<u8>,
     /// How many characters the text has.
@@ -81,13 +82,13 @@ pub struct PageText {
     pub outcome: Result<(), RollFault>,
 }
 
-// The form of a page; a picture has none.
-fn page_form(page: &Page) -> Option<Form>
-    ensures { result ≡ page_form page.now }
+// The number of a page's form; a picture has 0.
+fn form_number(page: &Page) -> u8
+    ensures { result ≡ form_told (page_form page.now) }
 {
     match *page {
-        Page::Text { form, .. } => Some(form),
-        Page::Picture { .. } => None,
+        Page::Text { form, .. } => form.into(),
+        Page::Picture { .. } => 0,
     }
 }
 
@@ -95,7 +96,7 @@ fn page_form(page: &Page) -> Option<Form>
 /// is wanting. A page that is longer than a source may be, which no roll can hold, is refused as a
 /// roll of that size is.
 pub fn page_text(heap: Global, number: u32, page: &Page) -> Result<PageText, AllocError>
-    ensures form { IfOk result (λ t. t.form ≡ page_form page.now) }
+    ensures form { IfOk result (λ t. t.form ≡ form_told (page_form page.now)) }
     ensures text { IfOk result (IsTextOf number page.now) }
 {
     let mut read = Transcription::empty(heap);
@@ -105,7 +106,7 @@ pub fn page_text(heap: Global, number: u32, page: &Page) -> Result<PageText, All
         Err(PageFailure::NoMemory) => return Err(AllocError),
     };
     Ok(PageText {
-        form: page_form(page),
+        form: form_number(page),
         text: read.text,
         characters: read.characters,
         outcome,

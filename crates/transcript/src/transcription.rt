@@ -17,7 +17,7 @@ use crate::answers::{Done, FaultAt, Refusal, fault_number};
 use crate::calls::Transcript;
 use crate::{LONGEST_SECTOR, LONGEST_SOURCE};
 use charset::CharacterSet;
-use std::alloc::{AllocError, Global};
+use std::alloc::{AllocError, AllocFailed, Global};
 use std::error::Error;
 use std::fmt;
 
@@ -53,6 +53,15 @@ impl From<AllocError> for Failure {
     ghost from_gives = { λ _ r. r ≡ NoMemory };
 
     fn from(_error: AllocError) -> Failure {
+        Failure::NoMemory
+    }
+}
+
+// Nothing here fails so; it is for callers that push.
+impl<X: Drop> From<AllocFailed<X>> for Failure {
+    ghost from_gives = { λ _ r. r ≡ NoMemory };
+
+    fn from(_refused: AllocFailed<X>) -> Failure {
         Failure::NoMemory
     }
 }

@@ -2,6 +2,7 @@
 use Rattle.std.specs.Prelude.{◌≡◌, ℕ, zero, suc, ◌<◌, ◌≤◌, Bool, true, false}
 use Rattle.std.specs.Prelude.{cond, ◌&&◌, ◌⊎◌, List, [], ◌∷◌, length, take, Some}
 use Rattle.std.specs.Prelude.{None, Ok, Err, Option, Result, option_and_then, nat_le, refl}
+use Rattle.std.specs.Prelude.{◌≢◌}
 use Rattle.std.proofs.Common.{sym, ap, ◌∙◌, inl, inr, arith, length-take, take_all, take-take}
 use Rattle.std.proofs.Common.{lit<}
 use Rattle.std.proofs.lemmas.Bool.{cases_lt, both_ways, leb-true, le-leb, and_parts, not-true}
@@ -20,6 +21,16 @@ use Rattle.layers.specs.Recoding.{End, clean, pending, broken, Recoding, put, st
 use Rattle.layers.specs.Recoding.{before, in_form, is_clean, is_broken, at_most_four, coding_of}
 use Rattle.layers.specs.Recoding.{scan_cause, form_cause, recoded, Agrees}
 use Rattle.charset.proofs.FrontLemmas.{reading_reads, reading_is, reading_bad, answer_grows, alone}
+
+-- the three ways in which a scan ends are apart
+pub no_pb : pending ≢ broken
+no_pb e = cc
+
+pub no_cb : clean ≢ broken
+no_cb e = cc
+
+pub no_pc : pending ≢ clean
+no_pc e = cc
 
 abbrev pub RefusesInTwoBytes : {X : Type 0} → Result X SetRefusal → Type 0
 RefusesInTwoBytes r = (x : SetRefusal) → r ≡ Err x → IsTwoBytes x

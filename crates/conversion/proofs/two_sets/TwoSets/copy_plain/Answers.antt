@@ -1,5 +1,6 @@
-use Rattle.std.proofs.Common.{None, slice_index_or, sym, ap, ◌∙◌, arith}
+use Rattle.std.proofs.Common.{slice_index_or, subst}
 use Rattle.charset.specs.Sets.{set_of}
+use Rattle.conversion.specs.Met.{IsPlain}
 use Rattle.conversion.proofs.Turns.{far_none, far_plain}
 use Rattle.conversion.proofs.two_sets.TwoSets.copy_plain.Goals as goal
 
@@ -17,7 +18,5 @@ loop-count-preserved g c =
     c.args.output.now c.loop-count.output
     c.loop-count.count c.loop-count.count c.loop-count.count c.loop-count.invariant c.in-Some.byte
     c.loop-count-test.true c.if-count-output.true
-    (c.args.self.now.known_right.1 (slice_index_or c.args.input.now c.loop-count.count 0)
-    c.in-Some.byte
-    (omega (arith, c.type_inv.input c.loop-count.count))
-    (ap (λ i. slice_index_or c.args.self.now.known i None) (sym c.from.ensures) ∙ c.in-Some.is))
+    (subst (IsPlain s t (slice_index_or c.args.input.now c.loop-count.count 0))
+    c.in-Some.is (c.single.ensures s t c.requires))
